@@ -1,0 +1,107 @@
+-- The seven numbers, their ranges, the three slacks, the round window, and the refusals 1 and 2.
+use Prim.Native.Nat.{ℕ, _+_, _*_, _-_, _≤_}
+use mathlib.Core.Bool.{Bool, true, false, _&&_, _||_, not}
+use mathlib.Core.List.{List, [], _∷_}
+use lib.IntN.{ℤ, pos, _-ℤ_}
+use lib.Signed.{ltZ}
+use Rattle.words.specs.Tests.{_≤?_}
+use Rattle.words.specs.Said.{first, _when_}
+use Rattle.settings.specs.declared.Settings.{Settings}
+use Rattle.settings.specs.declared.Range.{Range}
+
+-- 01's letters
+abbrev pub n : Settings → ℕ
+n s = s .observers
+
+abbrev pub t : Settings → ℕ
+t s = s .survival
+
+abbrev pub η : Settings → ℕ
+η s = s .interval
+
+abbrev pub Δ : Settings → ℕ
+Δ s = s .timeliness
+
+abbrev pub P : Settings → ℕ
+P s = s .«recorder_lease»
+
+abbrev pub O : Settings → ℕ
+O s = s .«observer_lease»
+
+abbrev pub G : Settings → ℕ
+G s = s .grain
+
+-- G - 1: by how much a reading can lie below its clock
+abbrev pub rounding : Settings → ℕ
+rounding s = G s - 1
+
+-- The table of least and greatest values, one row a setting.
+infix 70 _to_
+abbrev pub _to_ : ℕ → ℕ → Range
+l to g = record { least = l; greatest = g }
+
+unfoldable pub ranges : List Range
+ranges =
+    1 to 16
+    ∷ 1 to 16
+    ∷ 1 to 1048576
+    ∷ 1 to 1048576
+    ∷ 1 to 16777216
+    ∷ 1 to 16777216
+    ∷ 1 to 1000
+    ∷ []
+
+abbrev pub values : Settings → List ℕ
+values s = n s ∷ t s ∷ η s ∷ Δ s ∷ P s ∷ O s ∷ G s ∷ []
+
+-- each value lies in its row
+unfoldable pub eachIn : List Range → List ℕ → Bool
+eachIn [] xs = true
+eachIn (row ∷ rows) [] = true
+eachIn (row ∷ rows) (x ∷ xs) = ((row .least ≤? x) && (x ≤? row .greatest)) && eachIn rows xs
+
+-- each value in its row, and t ≤ n
+unfoldable pub inRange : Settings → Bool
+inRange s = eachIn ranges (values s) && (t s ≤? n s)
+
+-- Three slacks, each of which may be below zero.
+abbrev pub slackA : Settings → ℤ
+slackA s = pos (P s) -ℤ pos (η s) -ℤ pos (Δ s) -ℤ pos (2 * rounding s) -ℤ pos 1
+
+abbrev pub slackB : Settings → ℤ
+slackB s = pos (O s) -ℤ pos (P s) -ℤ pos (Δ s) -ℤ pos (4 * rounding s)
+
+abbrev pub slackC : Settings → ℤ
+slackC s = pos (64 * η s) -ℤ pos (P s)
+
+abbrev pub negative : ℤ → Bool
+negative z = ltZ z (pos 0)
+
+-- Settings in range are accepted exactly if no slack is negative.
+unfoldable pub refusalOf : Settings → ℕ
+refusalOf s =
+    first (
+    1 when not (inRange s)
+    ∷ 2 when (negative (slackA s) || negative (slackB s) || negative (slackC s))
+    ∷ [])
+
+-- The round window W.
+unfoldable pub window : Settings → ℕ
+window s = O s - P s - 3 * rounding s
+
+-- What "in range" says of each number, for the proofs: settings that pass `inRange` have it (proofs/Ranges.antt).
+pub record InRange (s : Settings) : Type 0 where
+  pub n-least : 1 ≤ n s
+  pub n-greatest : n s ≤ 16
+  pub t-least : 1 ≤ t s
+  pub t-greatest : t s ≤ n s
+  pub η-least : 1 ≤ η s
+  pub η-greatest : η s ≤ 1048576
+  pub Δ-least : 1 ≤ Δ s
+  pub Δ-greatest : Δ s ≤ 1048576
+  pub P-least : 1 ≤ P s
+  pub P-greatest : P s ≤ 16777216
+  pub O-least : 1 ≤ O s
+  pub O-greatest : O s ≤ 16777216
+  pub G-least : 1 ≤ G s
+  pub G-greatest : G s ≤ 1000
