@@ -1,0 +1,3 @@
+-- Document 01, "Message lines": numbers and words.
+pub mod Decimals
+pub mod Places
