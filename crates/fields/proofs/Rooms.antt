@@ -96,6 +96,23 @@ agree-end (x ∷ s) [] (suc i) h = by (drop i s)
 agree-end (x ∷ s) (y ∷ word) zero h = absurd (not-suc-le-zero h)
 agree-end (x ∷ s) (y ∷ word) (suc i) h = agree-end s word i (le-of-suc-le-suc h)
 
+-- a room `l` in which `done` has been written from the front, `at` being the next place
+pub record Put (done room l : List ℕ) (at : ℕ) : Type 0 where
+  pub holds : l ≡ done ++ drop (length done) room
+  pub place : at ≡ length done
+
+pub put-none : (room : List ℕ) → Put [] room room 0
+put-none room = record { holds = refl; place = refl }
+
+pub put-then : (done room bytes : List ℕ) {l l′ : List ℕ} {at at′ : ℕ} → Put done room l at → length done + length bytes ≤ length room
+    → at′ ≡ nextPlace l at bytes → l′ ≡ putAt l at bytes → Put (done ++ bytes) room l′ at′
+put-then done room bytes p h e f =
+    let fits = next-fits (done ++ drop (length done) room) (length done) bytes (simp (length-append, length-drop) (omega arith)) in
+    record {
+      holds = rw (length-append done bytes) (f ∙ rw (p .place, p .holds) (put-behind done room bytes h));
+      place = e ∙ rw (p .place, p .holds) (fits ∙ sym (length-append done bytes));
+    }
+
 -- what a call that writes bytes at the front of the part from `at` on leaves of the whole
 pub put-part : (room : List ℕ) (at : ℕ) (bytes : List ℕ) → at + length bytes ≤ length room
     → putMid at (length room - at) room (bytes ++ drop (length bytes) (take (length room - at) (drop at room))) ≡ putAt room at bytes

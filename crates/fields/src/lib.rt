@@ -154,3 +154,11 @@ pub fn agreement(s: &[u8], word: &[u8]) -> usize
     }
     i
 }
+
+// The part of the slice that begins at `at`; nothing, where that is past the end.
+pub fn part_from(s: &[u8], at: usize) -> &[u8]
+    ensures { λ r. ⌜ now r ≡ drop at (now (s .entry)) ⌝ }
+{
+    let length = s.len();
+    if at <= length { &s[at..] } else { &s[length..] }
+}

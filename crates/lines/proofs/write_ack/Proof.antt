@@ -1,0 +1,107 @@
+-- Word, ts, tab, counter and end are put behind one another, if all of them fit. Assumes nothing.
+use Prim.Native.Nat.{ℕ, _+_, _≤_, _<_}
+use native.Mathlib.Omega.{arith}
+use mathlib.Core.List.{List, [], _∷_, _++_}
+use mathlib.Core.Path.{_≡_, sym, ap, _∙_}
+use denote.Ref.{now}
+use lib.ListN.{length, length-append}
+use Rattle.words.specs.Lists.{text}
+use Rattle.words.specs.Said.Said.{gives}
+use Rattle.fields.specs.Decimals.{digits}
+use Rattle.fields.proofs.Digits.{digits-most}
+use Rattle.fields.proofs.Rooms.{put-none, put-then}
+use Rattle.lines.specs.Writing.{ackLine}
+use Rattle.lines.proofs.Lines.{fits-said, fits-room, short-said, short-room}
+use borrow.Author.Needs.{needs}
+use Rattle.lines.proofs.write_ack.Statement.{statement}
+use Rattle.lines.proofs.write_ack.Tie as tie
+
+digit-count-requires : tie.Need-digit-count-requires
+digit-count-requires c κs = search needs
+
+add-if1 : tie.Need-add-if1
+add-if1 c = let s = c .before .before .before in omega (arith, c .digit-count .ensures, digits-most 19 (s .args .ts) (omega (arith, s .fits .ts .fits)), digits-most 19 (s .args .counter) (omega (arith, s .fits .counter .fits)), s .good .1 .1 .0 .1)
+
+digit-count-requires-2 : tie.Need-digit-count-requires-2
+digit-count-requires-2 c κs = search needs
+
+add-if1-2 : tie.Need-add-if1-2
+add-if1-2 c = let s = c .before .before .before .before in omega (arith, c .digit-count2 .ensures, c .before .digit-count .ensures, digits-most 19 (s .args .ts) (omega (arith, s .fits .ts .fits)), digits-most 19 (s .args .counter) (omega (arith, s .fits .counter .fits)), s .good .1 .1 .0 .1)
+
+add-if1-3 : tie.Need-add-if1-3
+add-if1-3 c = let s = c .before .before .before .before in omega (arith, c .digit-count2 .ensures, c .before .digit-count .ensures, digits-most 19 (s .args .ts) (omega (arith, s .fits .ts .fits)), digits-most 19 (s .args .counter) (omega (arith, s .fits .counter .fits)), s .good .1 .1 .0 .1)
+
+returns : tie.Need-returns
+returns c = 
+    let a = c .before .before .before .before .before .args in
+    let line = ackLine (a .ts) (a .counter) (now (a .end)) in
+    let short : length (now (a .out)) < length line = simp length-append (omega (arith, c .before .digit-count2 .ensures, c .before .before .digit-count .ensures)) in
+    (sym (short-said line (now (a .out)) short), sym (short-room line (now (a .out)) short))
+
+slice-aggregate-put-bytes : tie.Need-slice-aggregate-put-bytes
+slice-aggregate-put-bytes c = search needs
+
+put-bytes-requires : tie.Need-put-bytes-requires
+put-bytes-requires c κs = search needs
+
+put-number-requires : tie.Need-put-number-requires
+put-number-requires c κs = search needs
+
+slice-aggregate-put-bytes-2 : tie.Need-slice-aggregate-put-bytes-2
+slice-aggregate-put-bytes-2 c = search needs
+
+put-bytes-requires-2 : tie.Need-put-bytes-requires-2
+put-bytes-requires-2 c κs = search needs
+
+put-number-requires-2 : tie.Need-put-number-requires-2
+put-number-requires-2 c κs = search needs
+
+put-bytes-requires-3 : tie.Need-put-bytes-requires-3
+put-bytes-requires-3 c κs = search needs
+
+same-length : tie.Need-same-length
+same-length c = search needs
+
+returns-2 : tie.Need-returns-2
+returns-2 c = 
+    let a = c .before .before .before .before .before .before .before .before .before .before .before .before .before .before .before .before .before .before .before .before .before .before .before .before .before .before .before .args in
+    let ts = digits (a .ts) in
+    let counter = digits (a .counter) in
+    let end = now (a .end) in
+    let room = now (a .out) in
+    let enough : 11 + length ts + length counter + length end ≤ length room = omega (arith, c .before .before .before .before .before .before .before .before .before .before .before .before .before .before .before .before .before .before .before .before .before .before .before .digit-count2 .ensures, c .before .before .before .before .before .before .before .before .before .before .before .before .before .before .before .before .before .before .before .before .before .before .before .before .digit-count .ensures, c .before .before .before .before .before .before .before .before .before .before .before .before .before .before .before .before .before .before .before .before .before .before .if1 .left) in
+    let word = text "CHECK-ACK\t" in
+    let tab = text "\t" in
+    let p₁ = c .before .before .before .before .before .before .before .before .before .before .before .before .before .before .before .before .before .before .before .put-bytes .ensures in
+    let p₂ = c .before .before .before .before .before .before .before .before .before .before .before .before .before .before .before .put-number .ensures in
+    let p₃ = c .before .before .before .before .before .before .before .before .before .before .put-bytes2 .ensures in
+    let p₄ = c .before .before .before .before .before .before .put-number2 .ensures in
+    let p₅ = c .before .before .put-bytes3 .ensures in
+    let one = put-then [] room word (put-none room) (omega arith) (p₁ .0) (p₁ .1) in
+    let two = put-then word room ts one (omega arith) (p₂ .0) (p₂ .1) in
+    let three = put-then (word ++ ts) room tab two (simp length-append (omega arith)) (p₃ .0) (p₃ .1) in
+    let four = put-then (word ++ ts ++ tab) room counter three (simp length-append (omega arith)) (p₄ .0) (p₄ .1) in
+    let five = put-then (word ++ ts ++ tab ++ counter) room end four (simp length-append (omega arith)) (p₅ .0) (p₅ .1) in
+    let line = ackLine (a .ts) (a .counter) end in
+    let fits : length line ≤ length room = simp length-append (omega arith) in
+    (ap gives (five .place) ∙ sym (fits-said line room fits), five .holds ∙ sym (fits-room line room fits))
+
+pub write-ack-spec : {M : Type 1} → statement M
+write-ack-spec =
+    tie.close
+    (tie.spec
+    digit-count-requires
+    add-if1
+    digit-count-requires-2
+    add-if1-2
+    add-if1-3
+    returns
+    slice-aggregate-put-bytes
+    put-bytes-requires
+    put-number-requires
+    slice-aggregate-put-bytes-2
+    put-bytes-requires-2
+    put-number-requires-2
+    put-bytes-requires-3
+    same-length
+    returns-2)

@@ -1,0 +1,224 @@
+// Message lines: one line of text for each message, read from any bytes and written into lent room. Serves document 01,
+// "Message lines". Each field is read from the part of the line that begins where the field begins.
+use fields::Number;
+use fields::agreement;
+use fields::digit_count;
+use fields::part_from;
+use fields::put_bytes;
+use fields::put_number;
+use fields::read_number;
+use messages::Message;
+use messages::Status;
+ghost use mathlib.Core.Path.{_≡_};
+ghost use mathlib.Core.List.{_++_, _∷_, []};
+ghost use Rattle.fields.specs.Decimals.{digits};
+ghost use Rattle.messages.specs.Messages.{hasForm};
+ghost use Rattle.messages.specs.declared.Message.the-variants.{LeaseRequest, LeaseGrant, Check};
+ghost use Rattle.lines.specs.Reading.{begins, isExactly, onlyNumber, oneOf, readAckStatus, readAckCounter, readAck, readLine};
+ghost use Rattle.lines.specs.Writing.{fitting, filled, ackLine, writeSaid, writeRoom};
+ghost use Rattle.lines.specs.Answers.{saidOfRead, saidOfWritten};
+ghost use Rattle.lines.specs.Claims.{WrittenIsRead, ReadIsWritten, FortyFourAreEnough, FortyFourAreNeeded};
+
+// What the reader answers: the message, or 9.
+pub enum LineRead {
+    Got(Message),
+    Bad,
+}
+
+// What the writer answers: the line's length; or 9; or 10, the room being too short.
+pub enum LineWritten {
+    Length(usize),
+    Bad,
+    Short,
+}
+
+// Does the word stand at the front?
+fn starts(s: &[u8], word: &[u8]) -> bool
+    ensures { λ r. ⌜ r ≡ begins (now (word .entry)) (now (s .entry)) ⌝ }
+{
+    agreement(s, word) == word.len()
+}
+
+// Is it the word and nothing else?
+fn is_exactly(s: &[u8], word: &[u8]) -> bool
+    ensures { λ r. ⌜ r ≡ isExactly (now (word .entry)) (now (s .entry)) ⌝ }
+{
+    starts(s, word) & (s.len() == word.len())
+}
+
+// The number that is all of the part but its line feed.
+fn only_number(s: &[u8], allowed: bool, greatest: u64) -> Number
+    ensures { λ r. ⌜ r ≡ onlyNumber allowed greatest (now (s .entry)) ⌝ }
+{
+    let number = read_number(s, allowed, greatest);
+    match number {
+        Number::Value(value, count) => {
+            if is_exactly(part_from(s, count), b"\n") {
+                Number::Value(value, count)
+            } else {
+                Number::Bad(count)
+            }
+        }
+        Number::Bad(place) => Number::Bad(place),
+    }
+}
+
+fn request_of(number: Number) -> LineRead
+    ensures { λ r. ⌜ saidOfRead r ≡ oneOf LeaseRequest number ⌝ }
+{
+    match number {
+        Number::Value(counter, _) => LineRead::Got(Message::LeaseRequest(counter)),
+        Number::Bad(_) => LineRead::Bad,
+    }
+}
+
+fn grant_of(number: Number) -> LineRead
+    ensures { λ r. ⌜ saidOfRead r ≡ oneOf LeaseGrant number ⌝ }
+{
+    match number {
+        Number::Value(counter, _) => LineRead::Got(Message::LeaseGrant(counter)),
+        Number::Bad(_) => LineRead::Bad,
+    }
+}
+
+fn check_of(number: Number) -> LineRead
+    ensures { λ r. ⌜ saidOfRead r ≡ oneOf Check number ⌝ }
+{
+    match number {
+        Number::Value(ts, _) => LineRead::Got(Message::Check(ts)),
+        Number::Bad(_) => LineRead::Bad,
+    }
+}
+
+fn read_ack_status(ts: u64, counter: u64, s: &[u8]) -> LineRead
+    ensures { λ r. ⌜ saidOfRead r ≡ readAckStatus ts counter (now (s .entry)) ⌝ }
+{
+    if is_exactly(s, b"\tAlive\n") {
+        return LineRead::Got(Message::CheckAck(ts, counter, Status::Alive));
+    }
+    if is_exactly(s, b"\tDead\n") {
+        return LineRead::Got(Message::CheckAck(ts, counter, Status::Dead));
+    }
+    LineRead::Bad
+}
+
+fn read_ack_counter(ts: u64, s: &[u8]) -> LineRead
+    ensures { λ r. ⌜ saidOfRead r ≡ readAckCounter ts (now (s .entry)) ⌝ }
+{
+    if !starts(s, b"\t") {
+        return LineRead::Bad;
+    }
+    let field = part_from(s, 1);
+    let number = read_number(field, true, messages::TOP_COUNTER);
+    match number {
+        Number::Value(counter, count) => read_ack_status(ts, counter, part_from(field, count)),
+        Number::Bad(_) => LineRead::Bad,
+    }
+}
+
+fn read_ack(s: &[u8]) -> LineRead
+    ensures { λ r. ⌜ saidOfRead r ≡ readAck (now (s .entry)) ⌝ }
+{
+    let number = read_number(s, true, messages::TOP_READING);
+    match number {
+        Number::Value(ts, count) => read_ack_counter(ts, part_from(s, count)),
+        Number::Bad(_) => LineRead::Bad,
+    }
+}
+
+// The message whose line the bytes are, or 9.
+pub fn read_line(s: &[u8]) -> LineRead
+    ensures { λ r. ⌜ saidOfRead r ≡ readLine (now (s .entry)) ⌝ }
+{
+    if starts(s, b"LEASE-REQUEST\t") {
+        return request_of(only_number(part_from(s, 14), false, messages::TOP_COUNTER));
+    }
+    if starts(s, b"LEASE-GRANT\t") {
+        return grant_of(only_number(part_from(s, 12), false, messages::TOP_COUNTER));
+    }
+    if starts(s, b"CHECK\t") {
+        return check_of(only_number(part_from(s, 6), true, messages::TOP_READING));
+    }
+    if starts(s, b"CHECK-ACK\t") {
+        return read_ack(part_from(s, 10));
+    }
+    LineRead::Bad
+}
+
+fn has_form(m: Message) -> bool
+    ensures { λ r. ⌜ r ≡ hasForm m ⌝ }
+{
+    match m {
+        Message::LeaseRequest(counter) => (1 <= counter) & (counter <= messages::TOP_COUNTER),
+        Message::LeaseGrant(counter) => (1 <= counter) & (counter <= messages::TOP_COUNTER),
+        Message::Check(ts) => ts <= messages::TOP_READING,
+        Message::CheckAck(ts, counter, _) => {
+            (ts <= messages::TOP_READING) & (counter <= messages::TOP_COUNTER)
+        }
+    }
+}
+
+// A line of one number behind its word.
+fn write_one(word: &[u8], number: u64, out: &mut [u8]) -> LineWritten
+    ensures { λ r. ⌜ (saidOfWritten r ≡ fitting (now (word .entry) ++ digits number ++ (10 ∷ [])) (now (out .entry))) × (now (out .exit) ≡ filled (now (word .entry) ++ digits number ++ (10 ∷ [])) (now (out .entry))) ⌝ }
+{
+    if out.len() < word.len() + digit_count(number) + 1 {
+        return LineWritten::Short;
+    }
+    let number_at = put_bytes(out, 0, word);
+    let end_at = put_number(out, number_at, number);
+    LineWritten::Length(put_bytes(out, end_at, b"\n"))
+}
+
+// The line of an ack, whose end is its status with the tab before it and the line feed.
+fn write_ack(ts: u64, counter: u64, end: &[u8], out: &mut [u8]) -> LineWritten
+    ensures { λ r. ⌜ (saidOfWritten r ≡ fitting (ackLine ts counter (now (end .entry))) (now (out .entry))) × (now (out .exit) ≡ filled (ackLine ts counter (now (end .entry))) (now (out .entry))) ⌝ }
+{
+    if out.len() < 11 + digit_count(ts) + digit_count(counter) + end.len() {
+        return LineWritten::Short;
+    }
+    let ts_at = put_bytes(out, 0, b"CHECK-ACK\t");
+    let tab_at = put_number(out, ts_at, ts);
+    let counter_at = put_bytes(out, tab_at, b"\t");
+    let end_at = put_number(out, counter_at, counter);
+    LineWritten::Length(put_bytes(out, end_at, end))
+}
+
+// Writes the message's line at the front of the room. What stands behind the line is not touched, and where no line is
+// written nothing is.
+pub fn write_line(m: Message, out: &mut [u8]) -> LineWritten
+    ensures { λ r. ⌜ (saidOfWritten r ≡ writeSaid m (now (out .entry))) × (now (out .exit) ≡ writeRoom m (now (out .entry))) ⌝ }
+{
+    if !has_form(m) {
+        return LineWritten::Bad;
+    }
+    match m {
+        Message::LeaseRequest(counter) => write_one(b"LEASE-REQUEST\t", counter, out),
+        Message::LeaseGrant(counter) => write_one(b"LEASE-GRANT\t", counter, out),
+        Message::Check(ts) => write_one(b"CHECK\t", ts, out),
+        Message::CheckAck(ts, counter, status) => match status {
+            Status::Alive => write_ack(ts, counter, b"\tAlive\n", out),
+            Status::Dead => write_ack(ts, counter, b"\tDead\n", out),
+        },
+    }
+}
+
+// A message that is written is read back as itself.
+pub fn written_is_read()
+    ensures { λ _. ⌜ WrittenIsRead ⌝ }
+{}
+
+// A line that is read is, byte for byte, what writing its message gives.
+pub fn read_is_written()
+    ensures { λ _. ⌜ ReadIsWritten ⌝ }
+{}
+
+// 44 bytes of room are enough for every message.
+pub fn forty_four_are_enough()
+    ensures { λ _. ⌜ FortyFourAreEnough ⌝ }
+{}
+
+// One message needs them.
+pub fn forty_four_are_needed()
+    ensures { λ _. ⌜ FortyFourAreNeeded ⌝ }
+{}
