@@ -3,14 +3,14 @@ use Prim.Native.Nat.{ℕ, zero, suc, _+_, _-_, _≤_, _<_}
 use native.Mathlib.Nat.{not-suc-le-zero, le-of-suc-le-suc, zero-add, add-zero}
 use native.Mathlib.Numerals.{add-one}
 use native.Mathlib.Omega.{arith}
-use mathlib.Core.Path.{_≡_, refl, sym, ap, _∙_}
+use mathlib.Core.Path.{_≡_, refl, sym, ap, ap₂, _∙_}
 use mathlib.Core.Bool.{Bool, true, false}
 use mathlib.Core.List.{List, [], _∷_, _++_, append-assoc, append-nil}
 use lib.ListN.{length, take, drop, getD, set, length-append, length-take, length-drop, drop-of-length-le}
 use borrow.Rule.Slice.PartMut.{putMid}
 use lib.Seq.{drop-cons, set-append-seam, take-all, take-append-seam, drop-append-add, drop-drop}
-use borrow.Author.Tests.{le-leb, lt-leb}
-use Rattle.words.specs.Tests.{if_then_else_, _=?_}
+use borrow.Author.Tests.{le-leb, lt-leb, leb-true, eqb-true}
+use Rattle.words.specs.Tests.{if_then_else_, _≤?_, _=?_}
 use Rattle.fields.specs.Places.{putAt, nextPlace, agree}
 
 -- the part of a slice from n on, as code makes it
@@ -46,12 +46,12 @@ next-not room at bytes h = rw (lt-leb (at + length bytes) (length room) h)
 
 pub length-put : (room : List ℕ) (at : ℕ) (bytes : List ℕ) → length (putAt room at bytes) ≡ length room
 unfolding putAt
-length-put room at bytes = by (Rattle.words.specs.Tests._≤?_ (at + length bytes) (length room)) refl
+length-put room at bytes = by (at + length bytes ≤? length room) refl
   where
-    by : (b : Bool) → Rattle.words.specs.Tests._≤?_ (at + length bytes) (length room) ≡ b
+    by : (b : Bool) → at + length bytes ≤? length room ≡ b
         → length (if b then take at room ++ bytes ++ drop (at + length bytes) room else room) ≡ length room
     by true e =
-        let h = borrow.Author.Tests.leb-true (at + length bytes) (length room) e in
+        let h = leb-true (at + length bytes) (length room) e in
         simp (length-append, length-take, length-drop) (omega arith)
     by false e = refl
 
@@ -77,24 +77,25 @@ agree-next (x ∷ s) (y ∷ word) (suc i) h k =
 -- no more of it where either has ended
 pub agree-end : (s word : List ℕ) (i : ℕ) → length word ≤ i → agree (drop i s) (drop i word) ≡ 0
 unfolding agree
-agree-end [] [] i h = by i
+agree-end s word i h = rw (drop-of-length-le word {i = i} h)
+
+pub agree-none : (word : List ℕ) → agree [] word ≡ 0
+unfolding agree
+agree-none [] = refl
+agree-none (letter ∷ letters) = refl
+
+-- a word that agrees whole stands at the front
+pub agree-front : (s word : List ℕ) → agree s word ≡ length word → s ≡ word ++ drop (length word) s
+unfolding agree
+agree-front s [] e = refl
+agree-front [] (letter ∷ letters) e = absurd (let z : ⊥ = omega arith in z)
+agree-front (byte ∷ bytes) (letter ∷ letters) e = by (byte =? letter) refl e (agree-front bytes letters)
   where
-    by : (i : ℕ) → agree (drop i []) (drop i []) ≡ 0
-    by zero = refl
-    by (suc i) = refl
-agree-end [] (y ∷ word) i h = by i
-  where
-    by : (i : ℕ) → agree (drop i []) (drop i (y ∷ word)) ≡ 0
-    by zero = refl
-    by (suc i) = refl
-agree-end (x ∷ s) [] zero h = refl
-agree-end (x ∷ s) [] (suc i) h = by (drop i s)
-  where
-    by : (l : List ℕ) → agree l [] ≡ 0
-    by [] = refl
-    by (z ∷ l) = refl
-agree-end (x ∷ s) (y ∷ word) zero h = absurd (not-suc-le-zero h)
-agree-end (x ∷ s) (y ∷ word) (suc i) h = agree-end s word i (le-of-suc-le-suc h)
+    by : (b : Bool) → (byte =? letter) ≡ b → (if b then suc (agree bytes letters) else 0) ≡ suc (length letters)
+        → (agree bytes letters ≡ length letters → bytes ≡ letters ++ drop (length letters) bytes)
+        → byte ∷ bytes ≡ letter ∷ (letters ++ drop (length letters) bytes)
+    by true p e f = ap₂ _∷_ (eqb-true byte letter p) (f (omega arith))
+    by false p e f = absurd (let z : ⊥ = omega arith in z)
 
 -- a room `l` in which `done` has been written from the front, `at` being the next place
 pub record Put (done room l : List ℕ) (at : ℕ) : Type 0 where

@@ -16,6 +16,6 @@ nextPlace room at bytes = if at + length bytes ≤? length room then at + length
 
 -- How many bytes two lists have in common at their fronts.
 unfoldable pub agree : List ℕ → List ℕ → ℕ
-agree [] word = 0
-agree (byte ∷ bytes) [] = 0
+agree s [] = 0
+agree [] (letter ∷ letters) = 0
 agree (byte ∷ bytes) (letter ∷ letters) = if byte =? letter then suc (agree bytes letters) else 0

@@ -8,7 +8,7 @@ use denote.Ref.{now}
 use lib.ListN.{length, drop, drop-of-length-le}
 use borrow.Author.Tests.{eq-eqb, ne-eqb}
 use Rattle.fields.specs.Places.{agree}
-use Rattle.fields.proofs.Rooms.{agree-next, agree-end}
+use Rattle.fields.proofs.Rooms.{agree-next, agree-end, agree-none}
 use Rattle.fields.proofs.agreement.Statement.{statement}
 use Rattle.fields.proofs.agreement.Tie as tie
 
@@ -49,11 +49,10 @@ loop-again c =
     (omega arith, omega (arith, l .loop .inv .1, rw (eq-eqb _ _ (c .if2 .left)) at e))
 
 returns-3 : tie.Need-returns-3 Inv-loop μ-loop
-unfolding agree
 returns-3 c =
     let l = c .before in
     let e = drop-of-length-le (now (l .before .args .s)) {i = l .loop .i} (omega arith) in
-    let f = rw e at (l .loop .inv .1) in
+    let f = rw (e, agree-none (drop (l .loop .i) (now (l .before .args .word)))) at (l .loop .inv .1) in
     omega arith
 
 pub agreement-spec : {M : Type 1} → statement M
