@@ -39,23 +39,26 @@ each-more rows xs i ok h k e =
     e ∙ rw (next (0 to 0) rows i h, next 0 xs i k) (sym (ap (λ (b : Bool). b && rest) (and-assoc ok l g) ∙ and-assoc ok (l && g) rest))
 
 pub each-done : (rows : List Range) (xs : List ℕ) (i : ℕ) {all : Bool} (ok : Bool) → length rows ≤ i
-    → all ≡ (ok && eachIn (drop i rows) (drop i xs)) → all ≡ ok
+    → all ≡ (ok && eachIn (drop i rows) (drop i xs)) → ok ≡ all
 unfolding eachIn
-each-done rows xs i ok h e = e ∙ rw (drop-of-length-le rows {i = i} h) (and-true ok)
+each-done rows xs i ok h e = sym (e ∙ rw (drop-of-length-le rows {i = i} h) (and-true ok))
 
--- values that passed lie in their rows, by the row's number
-within : (rows : List Range) (xs : List ℕ) → eachIn rows xs ≡ true → (i : ℕ) → i < length rows → i < length xs
-    → (getD rows i (0 to 0) .least ≤ getD xs i 0) × (getD xs i 0 ≤ getD rows i (0 to 0) .greatest)
+-- values that passed lie in their rows: the first row, and by the row's number
+first-row : (row : Range) (x : ℕ) (rows : List Range) (xs : List ℕ) → eachIn (row ∷ rows) (x ∷ xs) ≡ true
+    → ((row .least ≤ x) × (x ≤ row .greatest)) × (eachIn rows xs ≡ true)
 unfolding eachIn
-within [] xs e i h k = absurd (not-suc-le-zero h)
-within (row ∷ rows) [] e i h k = absurd (not-suc-le-zero k)
-within (row ∷ rows) (x ∷ xs) e zero h k =
+first-row row x rows xs e =
     let a = both-hold ((row .least ≤? x) && (x ≤? row .greatest)) (eachIn rows xs) e in
     let b = both-hold (row .least ≤? x) (x ≤? row .greatest) (a .0) in
-    (leb-true _ _ (b .0), leb-true _ _ (b .1))
+    ((leb-true _ _ (b .0), leb-true _ _ (b .1)), a .1)
+
+within : (rows : List Range) (xs : List ℕ) → eachIn rows xs ≡ true → (i : ℕ) → i < length rows → i < length xs
+    → (getD rows i (0 to 0) .least ≤ getD xs i 0) × (getD xs i 0 ≤ getD rows i (0 to 0) .greatest)
+within [] xs e i h k = absurd (not-suc-le-zero h)
+within (row ∷ rows) [] e i h k = absurd (not-suc-le-zero k)
+within (row ∷ rows) (x ∷ xs) e zero h k = first-row row x rows xs e .0
 within (row ∷ rows) (x ∷ xs) e (suc i) h k =
-    let a = both-hold ((row .least ≤? x) && (x ≤? row .greatest)) (eachIn rows xs) e in
-    within rows xs (a .1) i (le-of-suc-le-suc h) (le-of-suc-le-suc k)
+    within rows xs (first-row row x rows xs e .1) i (le-of-suc-le-suc h) (le-of-suc-le-suc k)
 
 pub in-range : (s : Settings) → inRange s ≡ true → InRange s
 unfolding inRange ranges

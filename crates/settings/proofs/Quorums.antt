@@ -1,5 +1,5 @@
 -- Sets of observers: quorums meet, and none is lost as a set grows. Assumes nothing.
-use Prim.Native.Nat.{ℕ, zero, suc, _+_, _-_, _<_, _≤_}
+use Prim.Native.Nat.{ℕ, zero, suc, _+_, _<_, _≤_}
 use native.Mathlib.Omega.{arith}
 use native.Mathlib.Nat.{le-refl, le-trans}
 use mathlib.Core.Path.{_≡_, refl}
@@ -11,7 +11,7 @@ use Rattle.words.specs.Tests.{if_then_else_, _≤?_}
 use Rattle.words.specs.Lists.{countWhere}
 use Rattle.words.proofs.Booleans.{not-both}
 use Rattle.words.proofs.Walks.{count-suc}
-use Rattle.settings.specs.Settings.{n, t}
+use Rattle.settings.specs.Settings.{n}
 use Rattle.settings.specs.Quorums.{_∋_, members, survives, closes, QuorumsMeet, QuorumsGrow}
 use Rattle.settings.proofs.Laws.{accepted-in-range}
 
@@ -43,11 +43,9 @@ meet (suc k) one other h =
 
 pub quorums-meet : QuorumsMeet
 unfolding survives closes members
-quorums-meet s accepted one other survive close =
+quorums-meet s accepted survivors queried survive close =
     let range = accepted-in-range s accepted in
-    let few = leb-true (t s) (marks (n s) one) survive in
-    let many = leb-true (n s - t s + 1) (marks (n s) other) close in
-    meet (n s) one other (omega arith)
+    meet (n s) survivors queried (omega (arith, leb-true))
 
 -- a set that has what another has of the first k has as many of them
 grow : (k : ℕ) (set larger : List Bool) → ((x : ℕ) → x < k → set ∋ x → larger ∋ x) → marks k set ≤ marks k larger
@@ -65,7 +63,7 @@ grow (suc k) set larger has =
 pub quorums-grow : QuorumsGrow
 unfolding survives closes members
 quorums-grow s set larger has =
-    (still (t s), still (n s - t s + 1))
+    (still _, still _)
   where
     still : (k : ℕ) → (k ≤? marks (n s) set) ≡ true → (k ≤? marks (n s) larger) ≡ true
     still k e = le-leb k (marks (n s) larger) (le-trans (leb-true k (marks (n s) set) e) (grow (n s) set larger has))
