@@ -1,0 +1,4 @@
+-- Laws of the settings: Laws and Quorums are for the crates above.
+pub mod Laws
+pub mod Quorums
+mod Signed

@@ -89,7 +89,7 @@ refusalOf s =
 unfoldable pub window : Settings → ℕ
 window s = O s - P s - 3 * rounding s
 
--- What "in range" says of each number, for the proofs: settings that pass `inRange` have it (proofs/Ranges.antt).
+-- What "in range" says of each number, for the proofs: settings that pass `inRange` have it (`in-range` of proofs/Laws.antt).
 pub record InRange (s : Settings) : Type 0 where
   pub n-least : 1 ≤ n s
   pub n-greatest : n s ≤ 16

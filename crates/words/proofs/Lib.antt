@@ -1,0 +1,4 @@
+-- The laws that all proofs share.
+pub mod Booleans
+pub mod Walks
+pub mod Said

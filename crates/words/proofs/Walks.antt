@@ -1,0 +1,60 @@
+-- A loop walks a list by an index i: one element more, and the end. A flag that gathers `every` goes by what is still to
+-- come, `drop i`, and a number that gathers `countWhere` by what is passed, `take i`. Assumes nothing.
+use Prim.Native.Nat.{ℕ, zero, suc, _+_, _<_, _≤_}
+use native.Mathlib.Numerals.{add-one}
+use mathlib.Core.Path.{_≡_, refl, sym, ap, _∙_}
+use mathlib.Core.Bool.{Bool, true, false, _&&_, and-assoc, and-true}
+use mathlib.Core.List.{List, [], _∷_}
+use native.Mathlib.Omega.{arith}
+use borrow.Author.Tests.{ltb-true, ltb-false}
+use lib.ListN.{length, getD, drop, take, drop-of-length-le, List·getD-eq-default, length-take}
+use lib.Seq.{drop-cons, take-nil, take-all, getD-take}
+use Rattle.words.specs.Tests.{if_then_else_, _<?_}
+use Rattle.words.specs.Lists.{every, countWhere}
+
+pub next : {A : Type 0} (none : A) (xs : List A) (i : ℕ) → i < length xs → drop i xs ≡ getD xs i none ∷ drop (i + 1) xs
+next none xs i h = rw (add-one i) (drop-cons xs i none h)
+
+module _ {A : Type 0} (test : A → Bool) (xs : List A) (i : ℕ) where
+  pub every-more : (none : A) {all : Bool} (ok : Bool) → i < length xs → all ≡ (ok && every test (drop i xs))
+      → all ≡ (ok && test (getD xs i none) && every test (drop (i + 1) xs))
+  unfolding every
+  every-more none ok h e =
+      e ∙ rw (next none xs i h) (sym (and-assoc ok (test (getD xs i none)) (every test (drop (i + 1) xs))))
+
+  pub every-done : {all : Bool} (ok : Bool) → length xs ≤ i → all ≡ (ok && every test (drop i xs)) → ok ≡ all
+  unfolding every
+  every-done ok h e = sym (e ∙ rw (drop-of-length-le xs {i = i} h) (and-true ok))
+
+-- past the end stands an element that does not meet the test
+module _ {A : Type 0} (test : A → Bool) (none : A) (fails : test none ≡ false) where
+  pub count-suc : (xs : List A) (i : ℕ)
+      → countWhere test (take (suc i) xs) ≡ (if test (getD xs i none) then suc (countWhere test (take i xs)) else countWhere test (take i xs))
+  unfolding countWhere
+  count-suc [] i = rw (fails, take-nil {A = A} i)
+  count-suc (x ∷ xs) zero = refl
+  count-suc (x ∷ xs) (suc i) = by (test x) (test (getD xs i none)) (countWhere test (take i xs)) (count-suc xs i)
+    where
+      by : (a b : Bool) {m : ℕ} (k : ℕ) → m ≡ (if b then suc k else k)
+          → (if a then suc m else m) ≡ (if b then suc (if a then suc k else k) else (if a then suc k else k))
+      by true true k e = ap suc e
+      by true false k e = ap suc e
+      by false true k e = e
+      by false false k e = e
+
+  pub count-more : (xs : List A) (i : ℕ)
+      → countWhere test (take (i + 1) xs) ≡ (if test (getD xs i none) then countWhere test (take i xs) + 1 else countWhere test (take i xs))
+  count-more xs i = rw (add-one i, add-one (countWhere test (take i xs))) (count-suc xs i)
+
+  pub count-done : (xs : List A) (i : ℕ) → length xs ≤ i → countWhere test (take i xs) ≡ countWhere test xs
+  count-done xs i h = rw (take-all i xs h)
+
+  -- where only the first k elements count
+  pub among-first : (k : ℕ) (xs : List A) (i : ℕ) → test (getD (take k xs) i none) ≡ ((i <? k) && test (getD xs i none))
+  among-first k xs i = by (i <? k) refl
+    where
+      by : (b : Bool) → (i <? k) ≡ b → test (getD (take k xs) i none) ≡ (b && test (getD xs i none))
+      by true e = rw (getD-take k xs i none (ltb-true i k e))
+      by false e =
+          let past : length (take k xs) ≤ i = rw (length-take k xs) (omega (arith, ltb-false i k e)) in
+          rw (List·getD-eq-default (take k xs) none {n = i} past) fails
