@@ -2,14 +2,15 @@
 use Prim.Native.Nat.{ℕ, zero, suc, _+_, _-_, _*_, _/_, _%_, _^_, _≤_, _<_}
 use native.Mathlib.Numerals.{add-one}
 use native.Mathlib.Omega.{arith}
-use mathlib.Core.Path.{_≡_, refl, sym, ap, _∙_, subst}
+use mathlib.Core.Path.{_≡_, refl, sym, ap, _∙_}
 use mathlib.Core.Bool.{Bool, true, false, _&&_, _||_, not}
 use mathlib.Core.List.{List, [], _∷_, _++_, append-assoc}
-use lib.Dec.{T, ltb, leb, eqb}
+use lib.Dec.{leb}
 use lib.ListN.{length, getD, drop, length-append}
 use lib.Seq.{drop-append-seam}
 use borrow.Author.Tests.{lt-ltb, le-ltb, leb-true, eq-eqb, ltb-true, ltb-false, le-leb, ne-eqb, eqb-true, eqb-false}
 use Rattle.words.specs.Tests.{if_then_else_, _<?_, _=?_}
+use Rattle.words.proofs.Booleans.{not-both, both-hold, neither-holds}
 use Rattle.fields.specs.declared.Number.{Number}
 use Rattle.fields.specs.declared.Number.the-variants.{Value, Bad}
 use Rattle.fields.specs.Decimals.{isDigit, digitsIn, digits, readOn, numberAt}
@@ -37,21 +38,14 @@ next-byte greatest value i [] (suc at) = refl
 next-byte greatest value i (byte ∷ bytes) zero = refl
 next-byte greatest value i (byte ∷ bytes) (suc at) = rw (add-one (suc at)) (rw (add-one at) at (next-byte greatest value i bytes at))
 
-false-true : false ≡ true → ⊥
-false-true e = subst T (sym e) tt
-
-both : (a b : Bool) → (a && b) ≡ true → (a ≡ true) × (b ≡ true)
-both true b e = (refl, e)
-both false b e = absurd (false-true e)
-
 pub digit-within : (s : List ℕ) (i : ℕ) → isDigit (getD s i 0) ≡ true → i < length s
-digit-within [] zero e = absurd (false-true e)
-digit-within [] (suc i) e = absurd (false-true e)
+digit-within [] zero e = absurd (not-both e refl)
+digit-within [] (suc i) e = absurd (not-both e refl)
 digit-within (x ∷ s) zero e = omega arith
 digit-within (x ∷ s) (suc i) e = let h = digit-within s i e in omega arith
 
 pub digit-range : (byte : ℕ) → isDigit byte ≡ true → (48 ≤ byte) × (byte ≤ 57)
-digit-range byte e = let h = both (leb 48 byte) (leb byte 57) e in (leb-true 48 byte (h .0), leb-true byte 57 (h .1))
+digit-range byte e = let h = both-hold (leb 48 byte) (leb byte 57) e in (leb-true 48 byte (h .0), leb-true byte 57 (h .1))
 
 -- ---- what is written is read
 
@@ -122,10 +116,6 @@ record Going (greatest value : ℕ) (s : List ℕ) (n k : ℕ) : Type 0 where
   most : n ≤ greatest
   nonzero : n ≡ 0 → value ≡ 0
 
-pub neither : (a b : Bool) → (a || b) ≡ false → (a ≡ false) × (b ≡ false)
-neither true b e = absurd (false-true (sym e))
-neither false b e = (refl, e)
-
 value-path : {a b i k : ℕ} → Value a i ≡ Value b k → (a ≡ b) × (i ≡ k)
 value-path e = (cc, cc)
 
@@ -169,7 +159,7 @@ going greatest n k b (byte ∷ bytes) value i done d c m e =
     by true p true q e f = no-value e
     by true p false q e f =
         let r = digit-range byte p in
-        let o = neither (value =? 0) (greatest <? value * 10 + (byte - 48)) q in
+        let o = neither-holds (value =? 0) (greatest <? value * 10 + (byte - 48)) q in
         let nz = eqb-false value 0 (o .0) in
         let le = ltb-false greatest (value * 10 + (byte - 48)) (o .1) in
         let g = f (extended value byte done d nz (r .0) (r .1) (omega arith)) (omega (arith, length-append done (byte ∷ []))) le e in
@@ -191,7 +181,7 @@ read-digits allowed greatest (byte ∷ bytes) n k b e =
   where
     allows : (a : Bool) → ((byte - 48 =? 0) && not a) ≡ false → byte - 48 ≡ 0 → a ≡ true
     allows true e z = refl
-    allows false e z = absurd (false-true (sym e ∙ rw (eq-eqb (byte - 48) 0 z)))
+    allows false e z = absurd (not-both (rw (eq-eqb (byte - 48) 0 z)) e)
 
     by : (a : Bool) → isDigit byte ≡ a → (t : Bool) → (((byte - 48 =? 0) && not allowed) || (greatest <? byte - 48)) ≡ t
         → (if not a then Bad 0 else if t then Bad 0 else readOn greatest (byte - 48) 1 bytes) ≡ Value n k
@@ -200,7 +190,7 @@ read-digits allowed greatest (byte ∷ bytes) n k b e =
     by true p true q e = no-value e
     by true p false q e =
         let r = digit-range byte p in
-        let o = neither ((byte - 48 =? 0) && not allowed) (greatest <? byte - 48) q in
+        let o = neither-holds ((byte - 48 =? 0) && not allowed) (greatest <? byte - 48) q in
         let same : 48 + (byte - 48) ≡ byte = omega arith in
         let d = rw same at (digits-one (byte - 48) (omega arith)) in
         let g = going greatest n k b bytes (byte - 48) 1 (byte ∷ []) (sym d) refl (ltb-false greatest (byte - 48) (o .1)) e in

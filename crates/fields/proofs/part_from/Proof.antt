@@ -31,7 +31,7 @@ returns : tie.Need-returns
 returns c = let a = c .before .before .args in part-from (a .at) (now (a .s))
 
 returns-2 : tie.Need-returns-2
-returns-2 c = 
+returns-2 c =
     let a = c .before .before .args in
     part-from (length (now (a .s))) (now (a .s))
     ∙ drop-of-length-le (now (a .s)) {i = length (now (a .s))} (le-refl _)

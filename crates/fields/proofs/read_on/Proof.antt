@@ -7,8 +7,9 @@ use denote.Ref.{now}
 use lib.ListN.{length, drop, getD}
 use borrow.Author.Tests.{ltb-false}
 use Rattle.words.specs.Tests.{_=?_}
+use Rattle.words.proofs.Booleans.{neither-holds}
 use Rattle.fields.specs.Decimals.{isDigit, readOn}
-use Rattle.fields.proofs.Reading.{next-byte, digit-within, digit-range, neither}
+use Rattle.fields.proofs.Reading.{next-byte, digit-within, digit-range}
 use borrow.Author.Needs.{needs}
 use Rattle.fields.proofs.read_on.Statement.{statement}
 use Rattle.fields.proofs.read_on.Tie as tie
@@ -33,7 +34,7 @@ room : (c : tie.Else2 Inv-loop μ-loop)
     ≤ c .before .before .before .before .before .before .before .before .args .greatest
 room c =
     let value = c .before .before .before .before .before .before .loop .value in
-    let n = neither (value =? 0) (c .before .passes .result) (c .if2 .left) in
+    let n = neither-holds (value =? 0) (c .before .passes .result) (c .if2 .left) in
     ltb-false _ _ (sym (c .before .passes .ensures) ∙ n .1)
 
 loop-holds : tie.Need-loop-holds Inv-loop μ-loop

@@ -24,13 +24,13 @@ enum-known-number-2 c = search needs
 
 returns : tie.Need-returns
 unfolding ended onlyNumber
-returns c = 
+returns c =
     let n = c .before .before .before .before .before in
     rw (← (c .before .before .before .before .before .before .before .read-number .ensures), n .number .given .1, ← (c .before .before .before .part-from .ensures), ← (c .before .is-exactly .ensures), c .if1 .taken)
 
 returns-2 : tie.Need-returns-2
 unfolding ended onlyNumber
-returns-2 c = 
+returns-2 c =
     let n = c .before .before .before .before .before in
     rw (← (c .before .before .before .before .before .before .before .read-number .ensures), n .number .given .1, ← (c .before .before .before .part-from .ensures), ← (c .before .is-exactly .ensures), c .if1 .left)
 

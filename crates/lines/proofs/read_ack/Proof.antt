@@ -21,7 +21,7 @@ enum-told c = search needs
 
 returns : tie.Need-returns
 unfolding counterBehind readAck
-returns c = 
+returns c =
     rw (← (c .before .before .before .before .before .read-number .ensures), c .before .before .before .number .given .1, ← (c .before .part-from .ensures)) (c .read-ack-counter .ensures)
 
 returns-2 : tie.Need-returns-2

@@ -35,7 +35,7 @@ enum-told c = search needs
 
 returns-2 : tie.Need-returns-2
 unfolding statusBehind readAckCounter
-returns-2 c = 
+returns-2 c =
     let s = c .before .before .before .before .before .before .before .before .starts in
     rw (
       ← (s .ensures),
@@ -49,7 +49,7 @@ returns-2 c =
 
 returns-3 : tie.Need-returns-3
 unfolding statusBehind readAckCounter
-returns-3 c = 
+returns-3 c =
     let s = c .before .before .before .before .before .starts in
     rw (
       ← (s .ensures),

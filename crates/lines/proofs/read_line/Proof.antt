@@ -76,7 +76,7 @@ check-of-requires c κs = search needs
 
 returns-3 : tie.Need-returns-3
 unfolding readLine
-returns-3 c = 
+returns-3 c =
     rw (
       no-request (c .before .before .before .before .before .before .before .before .before),
       no-grant (c .before .before .before .before .before .before),
@@ -101,7 +101,7 @@ read-ack-requires c κs = search needs
 
 returns-4 : tie.Need-returns-4
 unfolding readLine
-returns-4 c = 
+returns-4 c =
     rw (
       no-request (c .before .before .before .before .before .before .before .before .before .before .before),
       no-grant (c .before .before .before .before .before .before .before .before),

@@ -32,7 +32,7 @@ add-if1-3 : tie.Need-add-if1-3
 add-if1-3 c = let s = c .before .before .before .before in omega (arith, c .digit-count2 .ensures, c .before .digit-count .ensures, digits-most 19 (s .args .ts) (omega (arith, s .fits .ts .fits)), digits-most 19 (s .args .counter) (omega (arith, s .fits .counter .fits)), s .good .1 .1 .0 .1)
 
 returns : tie.Need-returns
-returns c = 
+returns c =
     let a = c .before .before .before .before .before .args in
     let line = ackLine (a .ts) (a .counter) (now (a .end)) in
     let short : length (now (a .out)) < length line = simp length-append (omega (arith, c .before .digit-count2 .ensures, c .before .before .digit-count .ensures)) in
@@ -63,7 +63,7 @@ same-length : tie.Need-same-length
 same-length c = search needs
 
 returns-2 : tie.Need-returns-2
-returns-2 c = 
+returns-2 c =
     let a = c .before .before .before .before .before .before .before .before .before .before .before .before .before .before .before .before .before .before .before .before .before .before .before .before .before .before .before .args in
     let ts = digits (a .ts) in
     let counter = digits (a .counter) in

@@ -74,7 +74,7 @@ same-length c = search needs
 
 returns-2 : tie.Need-returns-2
 unfolding writeSaid writeRoom
-returns-2 c = 
+returns-2 c =
     let e = c .before .before .before .before .before .before .m .given .1 in
     let w = c .before .before .write-one .ensures in
     let f = formed (c .before .before .before .before .before .before .before .before) in
@@ -85,7 +85,7 @@ same-length-2 c = search needs
 
 returns-3 : tie.Need-returns-3
 unfolding writeSaid writeRoom
-returns-3 c = 
+returns-3 c =
     let e = c .before .before .before .before .before .before .m2 .given .1 in
     let w = c .before .before .write-one2 .ensures in
     let f = formed (c .before .before .before .before .before .before .before .before) in
@@ -96,7 +96,7 @@ same-length-3 c = search needs
 
 returns-4 : tie.Need-returns-4
 unfolding writeSaid writeRoom
-returns-4 c = 
+returns-4 c =
     let e = c .before .before .before .before .before .before .m3 .given .1 in
     let w = c .before .before .write-one3 .ensures in
     let f = formed (c .before .before .before .before .before .before .before .before) in
@@ -107,7 +107,7 @@ same-length-4 c = search needs
 
 returns-5 : tie.Need-returns-5
 unfolding writeSaid writeRoom
-returns-5 c = 
+returns-5 c =
     let m = c .before .before .before .before .before .before .before .before .m4 .given in
     let e = m .1 ∙ ap (CheckAck (m .0 .0) (m .0 .1 .0)) (c .before .before .before .before .before .enum-told .given .1) in
     let f = formed (c .before .before .before .before .before .before .before .before .before .before) in
@@ -118,7 +118,7 @@ same-length-5 c = search needs
 
 returns-6 : tie.Need-returns-6
 unfolding writeSaid writeRoom
-returns-6 c = 
+returns-6 c =
     let m = c .before .before .before .before .before .before .before .before .m4 .given in
     let e = m .1 ∙ ap (CheckAck (m .0 .0) (m .0 .1 .0)) (c .before .before .before .before .before .enum-told2 .given .1) in
     let f = formed (c .before .before .before .before .before .before .before .before .before .before) in

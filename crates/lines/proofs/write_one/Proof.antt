@@ -24,7 +24,7 @@ add-if1-2 : tie.Need-add-if1-2
 add-if1-2 c = let s = c .before .before .before in omega (arith, c .digit-count .ensures, digits-most 19 (s .args .number) (omega (arith, s .fits .number .fits)), s .good .0 .1)
 
 returns : tie.Need-returns
-returns c = 
+returns c =
     let a = c .before .before .before .before .args in
     let line = now (a .word) ++ digits (a .number) ++ (10 ∷ []) in
     let short : length (now (a .out)) < length line = simp length-append (omega (arith, c .before .digit-count .ensures)) in
@@ -46,7 +46,7 @@ same-length : tie.Need-same-length
 same-length c = search needs
 
 returns-2 : tie.Need-returns-2
-returns-2 c = 
+returns-2 c =
     let a = c .before .before .before .before .before .before .before .before .before .before .before .before .before .before .before .before .before .args in
     let word = now (a .word) in
     let number = digits (a .number) in
