@@ -5,7 +5,7 @@ use mathlib.Core.List.{List, [], _∷_}
 use lib.IntN.{ℤ, pos, _-ℤ_}
 use lib.Signed.{ltZ}
 use Rattle.words.specs.Tests.{_≤?_}
-use Rattle.words.specs.Said.{first, _when_}
+use Rattle.words.specs.Said.{Refusal, first, _when_}
 use Rattle.settings.specs.declared.Settings.{Settings}
 use Rattle.settings.specs.declared.Range.{Range}
 
@@ -77,13 +77,15 @@ slackC s = pos (64 * η s) -ℤ pos (P s)
 abbrev pub negative : ℤ → Bool
 negative z = ltZ z (pos 0)
 
--- Settings in range are accepted exactly if no slack is negative.
-unfoldable pub refusalOf : Settings → ℕ
-refusalOf s =
-    first (
+-- The first two lines of the table of refusals. "Settings in range are accepted exactly if no slack is negative."
+abbrev pub refusals : Settings → List Refusal
+refusals s =
     1 when not (inRange s)
     ∷ 2 when (negative (slackA s) || negative (slackB s) || negative (slackC s))
-    ∷ [])
+    ∷ []
+
+unfoldable pub refusalOf : Settings → ℕ
+refusalOf s = first (refusals s)
 
 -- The round window W.
 unfoldable pub window : Settings → ℕ

@@ -1,0 +1,35 @@
+// The standby: it asks the observers whether the recorder is dead. Serves document 01, "Standby".
+use messages::Status;
+ghost use Rattle.standby.specs.Claims.{FormIsKept, ClosedIsZero, VerdictsHold, DeadInWindow};
+
+// What is kept of one observer's ack; an unused place is not kept, with counter 0 and Alive.
+pub struct Place {
+    pub kept: bool,
+    pub counter: u64,
+    pub status: Status,
+}
+
+pub struct Standby {
+    pub open_flag: bool,
+    pub ts: u64,
+    pub last_reading: u64,
+    // one place an observer, by number
+    pub places: [Place; 16],
+}
+
+// What every step keeps, and what stands behind each verdict: the claims stand in specs/Claims.antt.
+pub fn form_is_kept()
+    ensures { λ _. ⌜ FormIsKept ⌝ }
+{}
+
+pub fn closed_is_zero()
+    ensures { λ _. ⌜ ClosedIsZero ⌝ }
+{}
+
+pub fn verdicts_hold()
+    ensures { λ _. ⌜ VerdictsHold ⌝ }
+{}
+
+pub fn dead_in_window()
+    ensures { λ _. ⌜ DeadInWindow ⌝ }
+{}
