@@ -1,0 +1,2 @@
+-- Document 01, "On either side of each limit".
+pub mod Limits
