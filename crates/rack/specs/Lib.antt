@@ -1,0 +1,3 @@
+-- Runs of a rack and the customer's demand 3.
+pub mod Clocks
+pub mod Runs
