@@ -1,0 +1,14 @@
+-- The claims on `lines`: each contract gives its outcome by what the answer says, and the room outright. Assumes nothing.
+use mathlib.Core.Path.{refl, sym, ap, _∙_}
+use Rattle.lines.proofs.Lines.{read-apart, written-apart}
+use Rattle.settled.proofs.lines_settled.Statement.{statement}
+use Rattle.settled.proofs.lines_settled.Tie as tie
+
+returns : tie.Need-returns
+returns c = record {
+  «read_line» = λ _ _ _ _ _ _ p q. (read-apart (p ∙ sym q), refl);
+  «write_line» = λ _ _ _ _ _ _ p q. (written-apart (p .0 ∙ sym (q .0)), ap (λ out. (tt, (out, tt))) (p .1 ∙ sym (q .1)));
+}
+
+pub lines-settled-spec : {M : Type 1} → statement M
+lines-settled-spec = tie.close (tie.spec returns)

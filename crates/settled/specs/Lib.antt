@@ -1,0 +1,5 @@
+-- Determinacy: what it says, and the claim for each crate whose public functions are judged.
+pub mod Settled
+pub mod OfSettings
+pub mod OfFields
+pub mod OfLines
