@@ -1,0 +1,3 @@
+pub mod Clocks
+pub mod History
+pub mod Ghost
