@@ -1,0 +1,4 @@
+-- Laws of the recorder.
+pub mod Formed
+pub mod Spacing
+pub mod Room
