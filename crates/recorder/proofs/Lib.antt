@@ -2,3 +2,6 @@
 pub mod Formed
 pub mod Spacing
 pub mod Room
+pub mod Ways
+pub mod Grants
+pub mod Staying
