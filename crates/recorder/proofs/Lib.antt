@@ -5,3 +5,6 @@ pub mod Room
 pub mod Ways
 pub mod Grants
 pub mod Staying
+pub mod Placing
+pub mod Lacking
+pub mod Keeping

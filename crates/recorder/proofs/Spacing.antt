@@ -62,6 +62,17 @@ module _ (s : Settings) (r : ℕ) where
       by true h = omega arith
       by false h = omega arith
 
+  -- a young one is kept
+  pub kept-some : (xs : List ℕ) (i : ℕ) → i < length xs → r - getD xs i 0 < P s → 1 ≤ length (kept s r xs)
+  unfolding kept
+  kept-some [] i h young = absurd (not-suc-le-zero h)
+  kept-some (x ∷ xs) zero h young = rw (lt-leb (P s) (r - x) young) (omega arith)
+  kept-some (x ∷ xs) (suc i) h young = by (hasEnded s r x) (kept-some xs i (le-of-suc-le-suc h) young)
+    where
+      by : (over : Bool) → 1 ≤ length (kept s r xs) → 1 ≤ length (if over then kept s r xs else x ∷ kept s r xs)
+      by true some = some
+      by false some = omega arith
+
   -- what is kept is young
   pub kept-young : (xs : List ℕ) (i : ℕ) → i < length (kept s r xs) → r - getD (kept s r xs) i 0 < P s
   unfolding kept
@@ -118,3 +129,18 @@ module _ (s : Settings) (r : ℕ) where
       ap (λ (l : List ℕ). getD l (length (kept s r xs) - 1) 0) (kept-newest h xs e)
       ∙ getD-drop (ended xs) xs (length (kept s r xs) - 1) 0
       ∙ ap (λ (i : ℕ). getD xs i 0) there
+
+  -- those before them have ended
+  pub ended-first : 1 ≤ η s → (xs : List ℕ) → spaced (η s) xs ≡ true → (i : ℕ) → i < ended xs → P s ≤ r - getD xs i 0
+  unfolding kept
+  ended-first h [] e i below = let z : ⊥ = omega arith in absurd z
+  ended-first h (x ∷ xs) e i below = by (ended-first h xs (spaced-rest (η s) x xs e)) (hasEnded s r x) refl i below
+    where
+      by : ((j : ℕ) → j < ended xs → P s ≤ r - getD xs j 0) → (over : Bool) → hasEnded s r x ≡ over
+          → (j : ℕ) → j < suc (length xs) - length (if over then kept s r xs else x ∷ kept s r xs) → P s ≤ r - getD (x ∷ xs) j 0
+      by rest true u zero below = leb-true (P s) (r - x) u
+      by rest true u (suc j) below = rest j (omega arith)
+      by rest false u j below =
+          let all = ap length (after-young h x xs e (leb-false (P s) (r - x) u)) in
+          let z : ⊥ = omega arith in
+          absurd z
