@@ -2,11 +2,11 @@
 use Prim.Native.Nat.{ℕ, zero, suc, _+_, _-_, _<_, _≤_, zero-le}
 use native.Mathlib.Omega.{arith}
 use mathlib.Core.Path.{_≡_, refl, sym, ap, _∙_}
-use mathlib.Core.Bool.{Bool, true, false, _&&_, _||_, not}
-use mathlib.Core.List.{List, [], _∷_}
-use lib.ListN.{length, take, drop, getD}
+use mathlib.Core.Bool.{true, false, not}
+use mathlib.Core.List.{List}
+use lib.ListN.{length, drop, getD}
 use lib.Seq.{getD-drop}
-use borrow.Author.Tests.{leb-true, ltb-true, eqb-true, le-leb, lt-ltb, eq-eqb, ne-eqb, eqb-false, not-false}
+use borrow.Author.Tests.{leb-true, ltb-true, eqb-true, le-leb, lt-ltb, eq-eqb, ne-eqb, not-false}
 use Rattle.words.specs.Tests.{_<?_, _≤?_, _=?_}
 use Rattle.words.specs.Lists.{every}
 use Rattle.words.proofs.Booleans.{both-hold, not-both}

@@ -1,5 +1,5 @@
 -- The places of grants: who has granted a number, and that no step lowers a place. Assumes nothing.
-use Prim.Native.Nat.{ℕ, _≤_, _<_}
+use Prim.Native.Nat.{ℕ, _≤_}
 use native.Mathlib.Nat.{le-refl}
 use native.Mathlib.Omega.{arith}
 use mathlib.Core.Path.{_≡_, refl, sym, ap, _∙_}
@@ -10,13 +10,12 @@ use lib.ListN.{length, getD, set, List·getD-map}
 use lib.Seq.{getD-set-same, getD-set-other, set-out}
 use borrow.Author.Tests.{ltb-true, ltb-false, eqb-true, eqb-false, lt-leb}
 use Rattle.words.specs.Tests.{if_then_else_, _<?_, _≤?_, _=?_}
-use Rattle.settings.specs.declared.Settings.{Settings}
 use Rattle.messages.specs.Outcomes.{Outcome}
 use Rattle.recorder.specs.declared.Recorder.{Recorder}
-use Rattle.recorder.specs.Recorder.{granted, higher, advanced, due, requesting, standing, tickEvent, grantEvent, driveEvent, Event}
+use Rattle.recorder.specs.Recorder.{granted, higher, advanced, due, tickEvent, grantEvent, driveEvent, Event}
 use Rattle.recorder.specs.Recorder.Event.{tick, grant, drive}
 use Rattle.recorder.specs.Claims.{GrantsNeverFall}
-use Rattle.recorder.proofs.Ways.{eventOf, Ways, each-way}
+use Rattle.recorder.proofs.Ways.{eventOf, each-way}
 
 -- whether observer x has granted a number is seen in its place
 pub granted-at : (rec : Recorder) (number x : ℕ) → 1 ≤ number → getD (granted rec number) x false ≡ (number ≤? getD (rec .grants) x 0)

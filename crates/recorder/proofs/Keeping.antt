@@ -2,11 +2,11 @@
 use Prim.Native.Nat.{ℕ, _+_, _-_, _≤_, _<_, zero-le}
 use native.Mathlib.Nat.{le-refl, le-trans, le-of-eq, not-suc-le-zero}
 use native.Mathlib.Omega.{arith}
-use mathlib.Core.Path.{_≡_, refl, sym, ap, _∙_}
-use mathlib.Core.Logic.{_⊎_, inl, inr, ⊎-elim}
-use mathlib.Core.Bool.{Bool, true, false, _&&_, _||_, not}
-use mathlib.Core.List.{List, [], _∷_, _++_}
-use lib.ListN.{length, getD, take, set, replicate, length-append, length-set, List·getD-append}
+use mathlib.Core.Path.{_≡_, refl, ap, _∙_}
+use mathlib.Core.Logic.{_⊎_, inl, inr}
+use mathlib.Core.Bool.{Bool, true, false, _&&_, not}
+use mathlib.Core.List.{[], _∷_, _++_}
+use lib.ListN.{length, getD, set, replicate, length-append, length-set, List·getD-append}
 use lib.Seq.{take-at, getD-append-seam, getD-set-other}
 use borrow.Author.Tests.{leb-true, ltb-true, ltb-false, eqb-true}
 use Rattle.words.specs.Tests.{if_then_else_, _<?_, _≤?_, _=?_}
@@ -17,13 +17,12 @@ use Rattle.words.proofs.Conditions.{second-holds}
 use Rattle.settings.specs.declared.Settings.{Settings}
 use Rattle.settings.specs.Settings.{n, η, P, refusalOf}
 use Rattle.settings.proofs.Laws.{accepted-in-range}
-use Rattle.messages.specs.Messages.{topCounter}
 use Rattle.messages.specs.declared.Message.the-variants.{LeaseRequest}
 use Rattle.messages.specs.Answers.{sends as sending, says}
 use Rattle.messages.specs.Outcomes.{Outcome, _leaving_}
 use Rattle.messages.proofs.Outcomes.{never-given}
 use Rattle.recorder.specs.declared.Recorder.{Recorder}
-use Rattle.recorder.specs.Recorder.{lastSend, lastReading, openLeases, leases, isZero, spaced, hasForm, kept, lacking, placed, advanced, halted, due, requesting, higher, granting, tickEvent, grantEvent, driveEvent, registered, standing, stepOf, fresh, Event}
+use Rattle.recorder.specs.Recorder.{lastSend, lastReading, openLeases, leases, isZero, spaced, hasForm, kept, lacking, advanced, halted, due, requesting, higher, granting, tickEvent, grantEvent, driveEvent, registered, standing, stepOf, fresh, Event}
 use Rattle.recorder.specs.Recorder.Event.{tick, grant, drive}
 use Rattle.recorder.specs.Claims.{Sized, FormIsKept, PlacesSuffice}
 use Rattle.recorder.proofs.Formed.{Formed, formed, has-form, not-zero, positive}
@@ -32,7 +31,7 @@ use Rattle.recorder.proofs.Room.{leases-length, leases-last, room-advan
 use Rattle.recorder.proofs.Placing.{zeros, placed-unused, placed-back, placed-length}
 use Rattle.recorder.proofs.Grants.{higher-below, after-store}
 use Rattle.recorder.proofs.Lacking.{none-lacks, newest-kept}
-use Rattle.recorder.proofs.Ways.{refusalsOf, eventOf, Passes, Allowed, allowed, allowed-grant, Ways, each-way}
+use Rattle.recorder.proofs.Ways.{refusalsOf, eventOf, Passes, Allowed, allowed, allowed-grant, each-way}
 
 module _ (s : Settings) (rec : Recorder) (r : ℕ) where
   reading-advanced : lastReading (advanced s rec r) ≡ r

@@ -8,3 +8,4 @@ pub mod Staying
 pub mod Placing
 pub mod Lacking
 pub mod Keeping
+pub mod Steps

@@ -2,10 +2,10 @@
 use Prim.Native.Nat.{ℕ, zero, suc, _+_, _-_, _*_, _≤_, _<_}
 use native.Mathlib.Nat.{suc-mul, zero-mul, not-suc-le-zero, le-of-suc-le-suc}
 use native.Mathlib.Omega.{arith}
-use mathlib.Core.Path.{_≡_, refl, sym, ap, _∙_}
-use mathlib.Core.Bool.{Bool, true, false, _&&_}
+use mathlib.Core.Path.{_≡_, refl, ap, _∙_}
+use mathlib.Core.Bool.{Bool, true, false}
 use mathlib.Core.List.{List, [], _∷_, _++_}
-use lib.ListN.{length, getD, drop, length-drop}
+use lib.ListN.{length, getD, drop}
 use lib.Seq.{getD-drop}
 use borrow.Author.Tests.{leb-true, leb-false, lt-leb, le-leb}
 use Rattle.words.specs.Tests.{if_then_else_, _≤?_}
@@ -39,6 +39,16 @@ module _ (apart : ℕ) where
       let last-of-rest : suc (length ys) - 1 ≡ length ys = omega arith in
       let far = rw last at (h (omega arith)) in
       holds-both (parts .0) (spaced-more (y ∷ ys) z (parts .1) (λ some. rw last-of-rest far))
+
+  -- each is as far below the next
+  pub spaced-at : 1 ≤ apart → (xs : List ℕ) → spaced apart xs ≡ true → (i : ℕ) → suc i < length xs → getD xs i 0 + apart ≤ getD xs (suc i) 0
+  unfolding spaced
+  spaced-at h [] e i within = absurd (not-suc-le-zero within)
+  spaced-at h (x ∷ []) e i within = absurd (not-suc-le-zero (le-of-suc-le-suc within))
+  spaced-at h (x ∷ (y ∷ ys)) e zero within =
+      let step = leb-true apart (y - x) (both-hold (apart ≤? y - x) (spaced apart (y ∷ ys)) e .0) in omega arith
+  spaced-at h (x ∷ (y ∷ ys)) e (suc i) within =
+      spaced-at h (y ∷ ys) (both-hold (apart ≤? y - x) (spaced apart (y ∷ ys)) e .1) i (le-of-suc-le-suc within)
 
   -- the first is as far below the last as their number makes it
   pub first-to-last : 1 ≤ apart → (x : ℕ) (xs : List ℕ) → spaced apart (x ∷ xs) ≡ true

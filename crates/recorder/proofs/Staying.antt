@@ -8,7 +8,7 @@ use Rattle.recorder.specs.Recorder.{leases}
 use Rattle.recorder.specs.Claims.{StoppedStays, NewestAreKept}
 use Rattle.recorder.proofs.Formed.{formed}
 use Rattle.recorder.proofs.Spacing.{ended, kept-newest}
-use Rattle.recorder.proofs.Ways.{Ways, each-way}
+use Rattle.recorder.proofs.Ways.{each-way}
 
 pub stopped-stays : StoppedStays
 stopped-stays s rec r event is-stopped =

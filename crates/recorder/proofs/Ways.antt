@@ -3,8 +3,8 @@
 use Prim.Native.Nat.{ℕ, _<_, _≤_}
 use mathlib.Core.Path.{_≡_, refl}
 use mathlib.Core.Bool.{Bool, true, false, _||_, not}
-use mathlib.Core.List.{List, [], _∷_, _++_}
-use borrow.Author.Tests.{leb-false, ltb-false, eqb-true, eqb-false, not-true, not-false}
+use mathlib.Core.List.{List, [], _∷_}
+use borrow.Author.Tests.{leb-false, ltb-false, eqb-true, eqb-false, not-false}
 use Rattle.words.specs.Tests.{if_then_else_, _<?_, _≤?_}
 use Rattle.words.specs.Lists.{every}
 use Rattle.words.specs.Said.{Refusal, first, _when_}
