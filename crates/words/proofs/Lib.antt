@@ -2,3 +2,4 @@
 pub mod Booleans
 pub mod Walks
 pub mod Said
+pub mod Conditions
