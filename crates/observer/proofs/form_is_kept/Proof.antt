@@ -1,11 +1,10 @@
+-- The theorem, as the contract asks for it.
+use Rattle.observer.proofs.Laws.{form-is-kept}
 use Rattle.observer.proofs.form_is_kept.Statement.{statement}
 use Rattle.observer.proofs.form_is_kept.Tie as tie
-use Rattle.observer.proofs.form_is_kept.Reads as reads
-use Rattle.observer.proofs.form_is_kept.Lts as lts
 
--- src/lib.rt:13:1
 returns : tie.Need-returns
-returns c = ?
+returns c = form-is-kept
 
 pub form-is-kept-spec : {M : Type 1} → statement M
 form-is-kept-spec = tie.close (tie.spec returns)

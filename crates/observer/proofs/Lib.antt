@@ -1,0 +1,3 @@
+-- Laws of the observer, for the crates above.
+pub mod Refusals
+pub mod Laws
