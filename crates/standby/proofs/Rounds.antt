@@ -1,21 +1,24 @@
--- Where "dead" comes from: an ack of the open round, within the window, that makes up a query quorum. Assumes nothing.
+-- Where "dead" comes from: an ack of the open round, within the window, that makes up a query quorum. And what is kept stays
+-- while the round goes on. Assumes nothing.
 use Prim.Native.Nat.{ℕ, _-_, _≤_}
-use mathlib.Core.Path.{_≡_, refl, ap}
+use mathlib.Core.Path.{_≡_, refl, sym, ap, _∙_}
 use mathlib.Core.Bool.{true, false}
-use lib.ListN.{getD}
+use lib.ListN.{getD, List·getD-map}
+use lib.Seq.{getD-set-other}
 use borrow.Author.Tests.{ltb-false}
 use Rattle.words.specs.Tests.{_=?_}
 use Rattle.words.specs.Said.{Said}
-use Rattle.words.proofs.Booleans.{whether}
+use Rattle.words.proofs.Booleans.{not-both, whether}
 use Rattle.settings.specs.declared.Settings.{Settings}
 use Rattle.settings.specs.Quorums.{closes}
 use Rattle.messages.specs.declared.Status.{Status}
 use Rattle.messages.specs.declared.Message.the-variants.{Check}
 use Rattle.messages.specs.Answers.{Spoken, says, sends, saysOf, refuses}
 use Rattle.messages.specs.Outcomes.{Outcome}
+use Rattle.standby.specs.declared.Place.{Place}
 use Rattle.standby.specs.declared.Standby.{Standby}
-use Rattle.standby.specs.Standby.{keptMarks, keeping, isLate, verdict, beginRefusals, ackRefusals, pollRefusals, beginOf, ackWithin, pollWithin, afterKeeping, Event, begin, ack, poll, stepWithin}
-use Rattle.standby.specs.Claims.{DeadInWindow}
+use Rattle.standby.specs.Standby.{isOpen, unused, keptMarks, keeping, isLate, verdict, beginRefusals, ackRefusals, pollRefusals, beginOf, ackWithin, pollWithin, afterKeeping, Event, begin, ack, poll, stepWithin}
+use Rattle.standby.specs.Claims.{Kept, DeadInWindow, KeptStays}
 use Rattle.standby.proofs.Refusals.{unless-refused, ack-counted}
 use Rattle.standby.proofs.Verdicts.{initial, says-other}
 
@@ -65,3 +68,36 @@ module _ (w : ℕ) (s : Settings) (q : Standby) (r m : ℕ) where
 
 pub dead-in-window : DeadInWindow
 dead-in-window w s q r event m = from-ack w s q r m event
+
+module _ (w : ℕ) (s : Settings) (q : Standby) (r x : ℕ) (kept : Kept (q .places) x) where
+  abbrev Stays : Outcome Standby → Type 0
+  Stays o = isOpen (o .rec) ≡ true → getD (o .rec .places) x unused ≡ getD (q .places) x unused
+
+  -- an observer whose ack is kept is not the one whose first ack comes
+  another : (y : ℕ) → getD (keptMarks (q .places)) y false ≡ false → x ≡ y → ⊥
+  another y e same =
+      not-both (rw same at kept) (sym (List·getD-map (λ (place : Place). place .kept) (q .places) y unused) ∙ e)
+
+  stays : (event : Event) → (event ≡ begin → ⊥) → Stays (stepWithin w s q r event)
+  unfolding stepWithin ackWithin pollWithin afterKeeping
+  stays begin none = absurd (none refl)
+  stays poll none =
+      unless-refused Stays (pollRefusals s q r) q _
+      (λ accepted. whether Stays (isLate w q r) _ _ (λ late e. absurd (not-both e refl)) (λ early e. refl))
+      (λ refused e. refl)
+  stays (ack y ts cnt status) none =
+      unless-refused Stays (ackRefusals s q r y ts cnt) q _
+      (λ accepted.
+      whether Stays (isLate w q r) _ _
+      (λ late e. absurd (not-both e refl))
+      (λ early.
+      whether Stays (getD (keptMarks (q .places)) y false) _ _
+      (λ second e. refl)
+      (λ first.
+      whether Stays (closes s (keptMarks (keeping y cnt status (q .places)))) _ _
+      (λ quorum e. absurd (not-both e refl))
+      (λ few e. getD-set-other (q .places) y x _ unused (another y first)))))
+      (λ refused e. refl)
+
+pub kept-stays : KeptStays
+kept-stays w s q r event x kept = stays w s q r x kept event
