@@ -1,3 +1,4 @@
 pub mod Clocks
 pub mod History
 pub mod Ghost
+pub mod Steps

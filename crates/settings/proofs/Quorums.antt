@@ -1,18 +1,19 @@
 -- Sets of observers: quorums meet, and none is lost as a set grows. Assumes nothing.
-use Prim.Native.Nat.{ℕ, zero, suc, _+_, _<_, _≤_}
+use Prim.Native.Nat.{ℕ, zero, suc, _+_, _-_, _<_, _≤_}
 use native.Mathlib.Omega.{arith}
 use native.Mathlib.Nat.{le-refl, le-trans}
 use mathlib.Core.Path.{_≡_, refl}
-use mathlib.Core.Bool.{Bool, true, false}
-use mathlib.Core.List.{List}
+use mathlib.Core.Bool.{Bool, true, false, not}
+use mathlib.Core.List.{List, []}
 use lib.ListN.{getD, take}
-use borrow.Author.Tests.{leb-true, le-leb}
+use lib.Seq.{take-nil}
+use borrow.Author.Tests.{leb-true, le-leb, lt-leb, not-true}
 use Rattle.words.specs.Tests.{if_then_else_, _≤?_}
-use Rattle.words.specs.Lists.{countWhere}
+use Rattle.words.specs.Lists.{every, countWhere}
 use Rattle.words.proofs.Booleans.{not-both}
-use Rattle.words.proofs.Walks.{count-suc}
+use Rattle.words.proofs.Walks.{count-suc, every-at}
 use Rattle.settings.specs.declared.Settings.{Settings}
-use Rattle.settings.specs.Settings.{n, refusalOf}
+use Rattle.settings.specs.Settings.{n, t, refusalOf}
 use Rattle.settings.specs.Quorums.{_∋_, members, survives, closes, QuorumsMeet, QuorumsGrow}
 use Rattle.settings.proofs.Laws.{accepted-in-range}
 
@@ -84,3 +85,11 @@ some-mark (suc k) set h = by (some-mark k set) (getD set k false) refl (rw (mark
 pub a-survivor : (s : Settings) → refusalOf s ≡ 0 → (set : List Bool) → survives s set ≡ true → (x : ℕ) × (x < n s) × (set ∋ x)
 unfolding survives members
 a-survivor s accepted set e = let range = accepted-in-range s accepted in some-mark (n s) set (omega (arith, leb-true))
+
+-- nobody is no query quorum
+pub nobody-closes : (s : Settings) (set : List Bool) → every not set ≡ true → closes s set ≡ false
+unfolding closes members countWhere
+nobody-closes s set nobody =
+    let none : (x : ℕ) → set ∋ x → ⊥ = λ x has. not-both has (not-true (getD set x false) (every-at not false refl set nobody x)) in
+    let few = grow (n s) set [] (λ x h has. absurd (none x has)) in
+    lt-leb (n s - t s + 1) (marks (n s) set) (omega (arith, rw (take-nil {A = Bool} (n s)) at few))

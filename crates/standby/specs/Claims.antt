@@ -1,6 +1,6 @@
 -- What every step of the standby keeps, whatever its event and window, and what stands behind each verdict.
 use Prim.Native.Nat.{ℕ, _-_, _≤_, _<_}
-use mathlib.Core.Bool.{Bool, true, false}
+use mathlib.Core.Bool.{true, false}
 use mathlib.Core.List.{List}
 use mathlib.Core.Path.{_≡_}
 use lib.ListN.{length, getD}
@@ -11,7 +11,7 @@ use Rattle.messages.specs.declared.Status.the-variants.{Alive, Dead}
 use Rattle.messages.specs.Answers.{refuses, saysOf, says}
 use Rattle.standby.specs.declared.Place.{Place}
 use Rattle.standby.specs.declared.Standby.{Standby}
-use Rattle.standby.specs.Standby.{hasForm, isOpen, lastReading, closed, unused, keptMarks, greatest, verdict, keeping, Event, begin, ack, poll, stepWithin, fresh}
+use Rattle.standby.specs.Standby.{hasForm, isOpen, lastReading, closed, unused, keptMarks, greatest, verdict, keeping, Event, begin, ack, stepWithin, fresh}
 
 -- 16 places, as the struct has them
 abbrev pub Sized : Standby → Type 0
@@ -56,3 +56,10 @@ DeadInWindow =
     × (r - q .ts ≤ w)
     × (closes s (keptMarks (keeping x cnt status (q .places))) ≡ true)
     × (verdict (keeping x cnt status (q .places)) ≡ saysOf "dead" m)
+
+-- What is kept of an observer stays while its round goes on: a second ack changes nothing. Only a begin forgets.
+abbrev pub KeptStays : Type 0
+KeptStays =
+    (w : ℕ) (s : Settings) (q : Standby) (r : ℕ) (event : Event) (x : ℕ) → Kept (q .places) x
+    → (event ≡ begin → ⊥) → isOpen (stepWithin w s q r event .rec) ≡ true
+    → getD (stepWithin w s q r event .rec .places) x unused ≡ getD (q .places) x unused

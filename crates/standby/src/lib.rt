@@ -1,6 +1,6 @@
 // The standby: it asks the observers whether the recorder is dead. Serves document 01, "Standby".
 use messages::Status;
-ghost use Rattle.standby.specs.Claims.{FormIsKept, ClosedIsZero, VerdictsHold, DeadInWindow};
+ghost use Rattle.standby.specs.Claims.{FormIsKept, ClosedIsZero, VerdictsHold, DeadInWindow, KeptStays};
 
 // What is kept of one observer's ack; an unused place is not kept, with counter 0 and Alive.
 pub struct Place {
@@ -32,4 +32,8 @@ pub fn verdicts_hold()
 
 pub fn dead_in_window()
     ensures { λ _. ⌜ DeadInWindow ⌝ }
+{}
+
+pub fn kept_stays()
+    ensures { λ _. ⌜ KeptStays ⌝ }
 {}

@@ -2,11 +2,11 @@
 use Prim.Native.Nat.{ℕ, zero, suc}
 use native.Mathlib.Omega.{arith}
 use mathlib.Core.Path.{_≡_, refl, sym, ap, _∙_}
-use mathlib.Core.Bool.{Bool, true, false}
+use mathlib.Core.Bool.{Bool, true, false, _||_, not}
 use mathlib.Core.List.{List, [], _∷_}
 use lib.ListN.{getD}
-use borrow.Author.Tests.{ltb-true}
-use Rattle.words.specs.Tests.{if_then_else_, _<?_}
+use borrow.Author.Tests.{ltb-true, eqb-false, not-true}
+use Rattle.words.specs.Tests.{if_then_else_, _<?_, _=?_}
 use Rattle.words.specs.Lists.{every}
 use Rattle.words.specs.Said.{Refusal, first, _when_}
 use Rattle.words.proofs.Booleans.{both-hold}
@@ -29,6 +29,19 @@ none-applies (r ∷ rs) e numbered i =
         → getD (r ∷ rs) i (0 when false) .applies ≡ false
     at zero this others = this
     at (suc i) this others = others i
+
+-- a number whose lines do not apply is not given
+pub never-given : (k : ℕ) → (k ≡ 0 → ⊥) → (rs : List Refusal) → every (λ r. not (r .applies) || not (r .no =? k)) rs ≡ true
+    → first rs ≡ k → ⊥
+unfolding first every
+never-given k some-number [] e given = some-number (sym given)
+never-given k some-number (r ∷ rs) e given =
+    let parts = both-hold (not (r .applies) || not (r .no =? k)) (every (λ r. not (r .applies) || not (r .no =? k)) rs) e in
+    by (r .applies) (parts .0) (never-given k some-number rs (parts .1)) given
+  where
+    by : (b : Bool) → (not b || not (r .no =? k)) ≡ true → (first rs ≡ k → ⊥) → (if b then r .no else first rs) ≡ k → ⊥
+    by true other later given = eqb-false (r .no) k (not-true (r .no =? k) other) given
+    by false other later given = later given
 
 -- answers that say the same are the same, where there is a way back from what is said
 pub told-apart : {A B : Type 0} (said : A → B) (back : B → A) → ((a : A) → back (said a) ≡ a)

@@ -2,15 +2,16 @@
 -- come, `drop i`, and a number that gathers `countWhere` by what is passed, `take i`. Assumes nothing.
 use Prim.Native.Nat.{ℕ, zero, suc, _+_, _<_, _≤_}
 use native.Mathlib.Numerals.{add-one}
-use mathlib.Core.Path.{_≡_, refl, sym, ap, _∙_}
-use mathlib.Core.Bool.{Bool, true, false, _&&_, and-assoc, and-true}
+use mathlib.Core.Path.{_≡_, refl, sym, ap, ap₂, _∙_}
+use mathlib.Core.Bool.{Bool, true, false, _&&_, _||_, and-assoc, and-true}
 use mathlib.Core.List.{List, [], _∷_}
 use native.Mathlib.Omega.{arith}
 use borrow.Author.Tests.{ltb-true, ltb-false}
-use lib.ListN.{length, getD, drop, take, drop-of-length-le, List·getD-eq-default, length-take}
+use lib.ListN.{length, getD, drop, take, set, replicate, drop-of-length-le, List·getD-eq-default, length-take}
 use lib.Seq.{drop-cons, take-nil, take-all, getD-take}
 use Rattle.words.specs.Tests.{if_then_else_, _<?_}
-use Rattle.words.specs.Lists.{every, countWhere}
+use Rattle.words.specs.Lists.{every, some, countWhere}
+use Rattle.words.proofs.Booleans.{both-hold, neither-holds, not-both}
 
 pub next : {A : Type 0} (none : A) (xs : List A) (i : ℕ) → i < length xs → drop i xs ≡ getD xs i none ∷ drop (i + 1) xs
 next none xs i h = rw (add-one i) (drop-cons xs i none h)
@@ -58,3 +59,51 @@ module _ {A : Type 0} (test : A → Bool) (none : A) (fails : test none ≡ fals
       by false e =
           let past : length (take k xs) ≤ i = rw (length-take k xs) (omega (arith, ltb-false i k e)) in
           rw (List·getD-eq-default (take k xs) none {n = i} past) fails
+
+-- what `every` says of each element, and what keeps it
+module _ {A : Type 0} (test : A → Bool) where
+  -- past the end stands an element that meets the test
+  pub every-at : (none : A) → test none ≡ true → (xs : List A) → every test xs ≡ true → (i : ℕ) → test (getD xs i none) ≡ true
+  unfolding every
+  every-at none meets [] e i = meets
+  every-at none meets (x ∷ xs) e zero = both-hold (test x) (every test xs) e .0
+  every-at none meets (x ∷ xs) e (suc i) = every-at none meets xs (both-hold (test x) (every test xs) e .1) i
+
+  pub every-set : (v : A) → test v ≡ true → (xs : List A) (i : ℕ) → every test xs ≡ true → every test (set xs i v) ≡ true
+  unfolding every
+  every-set v meets [] i e = refl
+  every-set v meets (x ∷ xs) zero e = rw meets (both-hold (test x) (every test xs) e .1)
+  every-set v meets (x ∷ xs) (suc i) e =
+      let b = both-hold (test x) (every test xs) e in
+      rw (b .0) (every-set v meets xs i (b .1))
+
+  pub every-drop : (k : ℕ) (xs : List A) → every test xs ≡ true → every test (drop k xs) ≡ true
+  unfolding every
+  every-drop zero xs e = e
+  every-drop (suc k) [] e = refl
+  every-drop (suc k) (x ∷ xs) e = every-drop k xs (both-hold (test x) (every test xs) e .1)
+
+  -- where only v meets the test
+  pub every-same : (v : A) → ((x : A) → test x ≡ true → x ≡ v) → (xs : List A) → every test xs ≡ true → xs ≡ replicate (length xs) v
+  unfolding every
+  every-same v only [] e = refl
+  every-same v only (x ∷ xs) e =
+      let b = both-hold (test x) (every test xs) e in
+      ap₂ _∷_ (only x (b .0)) (every-same v only xs (b .1))
+
+  -- what `some` says: a place where the test is met, or none, even past the end
+  pub some-at : (none : A) (xs : List A) → some test xs ≡ true → (i : ℕ) × (test (getD xs i none) ≡ true)
+  unfolding some
+  some-at none [] e = absurd (not-both e refl)
+  some-at none (x ∷ xs) e = by (test x) refl e (some-at none xs)
+    where
+      by : (b : Bool) → test x ≡ b → (b || some test xs) ≡ true → (some test xs ≡ true → (i : ℕ) × (test (getD xs i none) ≡ true))
+          → (i : ℕ) × (test (getD (x ∷ xs) i none) ≡ true)
+      by true p e later = (0, p)
+      by false p e later = (suc (later e .0), later e .1)
+
+  pub none-at : (none : A) → test none ≡ false → (xs : List A) → some test xs ≡ false → (i : ℕ) → test (getD xs i none) ≡ false
+  unfolding some
+  none-at none fails [] e i = fails
+  none-at none fails (x ∷ xs) e zero = neither-holds (test x) (some test xs) e .0
+  none-at none fails (x ∷ xs) e (suc i) = none-at none fails xs (neither-holds (test x) (some test xs) e .1) i

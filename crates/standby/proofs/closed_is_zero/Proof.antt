@@ -1,11 +1,10 @@
+-- `standby::closed_is_zero` meets its contract: the theorem. Assumes nothing.
+use Rattle.standby.proofs.Forms.{closed-is-zero}
 use Rattle.standby.proofs.closed_is_zero.Statement.{statement}
 use Rattle.standby.proofs.closed_is_zero.Tie as tie
-use Rattle.standby.proofs.closed_is_zero.Reads as reads
-use Rattle.standby.proofs.closed_is_zero.Lts as lts
 
--- src/lib.rt:25:1
 returns : tie.Need-returns
-returns c = ?
+returns c = closed-is-zero
 
 pub closed-is-zero-spec : {M : Type 1} → statement M
 closed-is-zero-spec = tie.close (tie.spec returns)

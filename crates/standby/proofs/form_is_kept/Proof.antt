@@ -1,11 +1,10 @@
+-- `standby::form_is_kept` meets its contract: the theorem. Assumes nothing.
+use Rattle.standby.proofs.Forms.{form-is-kept}
 use Rattle.standby.proofs.form_is_kept.Statement.{statement}
 use Rattle.standby.proofs.form_is_kept.Tie as tie
-use Rattle.standby.proofs.form_is_kept.Reads as reads
-use Rattle.standby.proofs.form_is_kept.Lts as lts
 
--- src/lib.rt:21:1
 returns : tie.Need-returns
-returns c = ?
+returns c = form-is-kept
 
 pub form-is-kept-spec : {M : Type 1} → statement M
 form-is-kept-spec = tie.close (tie.spec returns)
