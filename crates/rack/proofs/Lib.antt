@@ -2,3 +2,4 @@ pub mod Clocks
 pub mod History
 pub mod Ghost
 pub mod Steps
+pub mod Invariant

@@ -11,7 +11,6 @@ use Rattle.words.specs.Tests.{if_then_else_, _<?_, _≤?_, _=?_}
 use Rattle.words.specs.Lists.{every}
 use Rattle.words.specs.Said.{Said, Refusal, first, _when_}
 use Rattle.words.specs.Said.Said.{refusal, gives}
-use Rattle.words.proofs.Booleans.{neither-holds}
 use Rattle.words.proofs.Said.{none-applies}
 use Rattle.settings.specs.declared.Settings.{Settings}
 use Rattle.settings.specs.Settings.{n, O, refusals}
@@ -21,11 +20,8 @@ use Rattle.messages.specs.declared.Message.{Message}
 use Rattle.messages.specs.declared.Message.the-variants.{LeaseRequest, LeaseGrant, Check, CheckAck}
 use Rattle.messages.specs.Answers.{Spoken, refuses, sends, says, saysOf}
 use Rattle.messages.specs.Answers.Spoken.{message, wordWith}
-use Rattle.messages.specs.Outcomes.{Outcome, _leaving_, unlessRefused, badReading}
-use Rattle.recorder.specs.declared.Recorder.{Recorder}
-use Rattle.recorder.specs.Recorder as recorder
-use Rattle.recorder.specs.Recorder.{Event as RecorderEvent}
-use Rattle.recorder.specs.Recorder.Event.{tick, grant, drive}
+use Rattle.messages.specs.Outcomes.{Outcome, _leaving_}
+use Rattle.messages.proofs.Outcomes.{either-way}
 use Rattle.observer.specs.declared.Observer.{Observer}
 use Rattle.observer.specs.Observer as observer
 use Rattle.observer.specs.Observer.{Event as ObserverEvent}
@@ -35,21 +31,6 @@ use Rattle.standby.specs.declared.Standby.{Standby}
 use Rattle.standby.specs.Standby as standby
 use Rattle.standby.specs.Standby.{Event as StandbyEvent}
 use Rattle.standby.specs.Standby.Event.{begin, ack, poll}
-
--- by cases on a test, its outcome at hand
-pub by-test {ℓ} : {A : Type ℓ} (b : Bool) → (b ≡ true → A) → (b ≡ false → A) → A
-by-test true t f = t refl
-by-test false t f = f refl
-
--- a step is refused, or none of its refusals applies
-pub refused-or : {R : Type 0} (P : Outcome R → Type 0) (table : List Refusal) (rec : R) (step : Outcome R)
-    → ((k : ℕ) → P (refuses k leaving rec)) → (first table ≡ 0 → P step) → P (unlessRefused table rec step)
-unfolding unlessRefused
-refused-or P table rec step refuse go = of (first table =? 0) refl
-  where
-    of : (b : Bool) → (first table =? 0) ≡ b → P (if b then step else refuses (first table) leaving rec)
-    of true e = go (eqb-true (first table) 0 e)
-    of false e = refuse (first table)
 
 -- a word is no message
 pub no-message : {A : Type 0} {v : List ℕ} {values : List ℕ} {m : Message} → gives (wordWith v values) ≡ gives (message m) → A
@@ -93,7 +74,7 @@ module _ (s : Settings) (o : Observer) (x r : ℕ) where
   requested : (c : ℕ) → ObserverStep s o r (request c) (observer.requestOf s o x r c)
   unfolding observer.requestOf observer.stores observer.storeAll observer.store
   requested c =
-      refused-or (λ out. ObserverStep s o r (request c) out) (observer.requestRefusals s o x r c) o _ (refused (request c)) (λ ok. of (o .latest <? c) refl)
+      either-way (observer.requestRefusals s o x r c) o _ (λ out. ObserverStep s o r (request c) out) (λ _. refused (request c) _) (λ ok. of (o .latest <? c) refl)
     where
       of : (b : Bool) → (o .latest <? c) ≡ b
           → ObserverStep s o r (request c) ((if b then sends (LeaseGrant c) else says "silent") leaving observer.atReading r (observer.storeAll (if b then observer.deadline (r + O s) ∷ observer.latest c ∷ [] else []) o))
@@ -109,7 +90,7 @@ module _ (s : Settings) (o : Observer) (x r : ℕ) where
   cutted : (c k : ℕ) → ObserverStep s o r (cut c k) (observer.cutOf s o x r c k)
   unfolding observer.cutOf observer.stores observer.storeAll observer.store
   cutted c k =
-      refused-or (λ out. ObserverStep s o r (cut c k) out) (observer.cutRefusals s o x r c k) o _ (refused (cut c k)) (λ ok. of (o .latest <? c) refl k (inr (k, refl)))
+      either-way (observer.cutRefusals s o x r c k) o _ (λ out. ObserverStep s o r (cut c k) out) (λ _. refused (cut c k) _) (λ ok. of (o .latest <? c) refl k (inr (k, refl)))
     where
       mute : {o′ : Observer} → Stores s o r (cut c k) o′ → ObserverStep s o r (cut c k) (says "cut" leaving o′)
       mute d =
@@ -134,7 +115,7 @@ module _ (s : Settings) (o : Observer) (x r : ℕ) where
   checked : (ts : ℕ) → ObserverStep s o r (check ts) (observer.checkOf s o x r ts)
   unfolding observer.checkOf
   checked ts =
-      refused-or (λ out. ObserverStep s o r (check ts) out) (observer.checkRefusals s o x r ts) o _ (refused (check ts))
+      either-way (observer.checkRefusals s o x r ts) o _ (λ out. ObserverStep s o r (check ts) out) (λ _. refused (check ts) _)
       (λ ok.
       record {
         stores = inl (refl, refl);
@@ -151,92 +132,6 @@ module _ (s : Settings) (o : Observer) (x r : ℕ) where
   observer-step (request c) = requested c
   observer-step (cut c k) = cutted c k
   observer-step (check ts) = checked ts
-
--- ---- Recorder
-
--- what an accepted step of a running recorder leaves, if no ended lease lacks grants
-abbrev pub Goes : Settings → Recorder → (r : ℕ) → RecorderEvent → Outcome Recorder → Type 0
-Goes s rec r e out =
-    ((e ≡ tick) × (recorder.due s (recorder.advanced s rec r) r ≡ true)
-    × (out ≡ (sends (LeaseRequest (rec .counter + 1)) leaving recorder.requesting (recorder.advanced s rec r) r)))
-    ⊎ (((x : ℕ) × (j : ℕ) × (e ≡ grant x j) × (x < n s) × (1 ≤ j) × (j ≤ rec .counter)
-    × (out ≡ (recorder.standing s (recorder.granting (recorder.advanced s rec r) x j) leaving recorder.granting (recorder.advanced s rec r) x j)))
-    ⊎ (out ≡ (recorder.standing s (recorder.advanced s rec r) leaving recorder.advanced s rec r)))
-
-pub record Accepted (s : Settings) (rec : Recorder) (r : ℕ) : Type 0 where
-  pub form : recorder.hasForm s rec ≡ true
-  pub reading : badReading (recorder.lastReading rec) r ≡ false
-  pub runs : rec .stopped ≡ 0
-
--- nothing changes; or the recorder stops; or it goes on
-abbrev pub RecorderStep : Settings → Recorder → (r : ℕ) → RecorderEvent → Outcome Recorder → Type 0
-RecorderStep s rec r e out =
-    ((out .rec ≡ rec) × ((out .answer ≡ says "stopped") ⊎ ((k : ℕ) × (out .answer ≡ refuses k))))
-    ⊎ ((Accepted s rec r × (out ≡ (says "stopped" leaving recorder.halted rec r)))
-    ⊎ (Accepted s rec r × (recorder.lacking s rec r ≡ false) × Goes s rec r e out))
-
-module _ (s : Settings) (rec : Recorder) (r : ℕ) where
-  -- stopped first, then ended leases, then the event
-  go-on : (e : RecorderEvent) (event : Recorder → Outcome Recorder) → recorder.hasForm s rec ≡ true → badReading (recorder.lastReading rec) r ≡ false
-      → Goes s rec r e (event (recorder.advanced s rec r)) → RecorderStep s rec r e (recorder.accepted s rec r event)
-  unfolding recorder.accepted
-  go-on e event form reading goes = of (recorder.isZero (rec .stopped)) refl (recorder.lacking s rec r) refl
-    where
-      of : (z : Bool) → recorder.isZero (rec .stopped) ≡ z → (l : Bool) → recorder.lacking s rec r ≡ l
-          → RecorderStep s rec r e
-          (if not z then says "stopped" leaving rec
-          else if l then says "stopped" leaving recorder.halted rec r
-          else event (recorder.advanced s rec r))
-      of false z l q = inl (refl, inl refl)
-      of true z true q = inr (inl (record { form = form; reading = reading; runs = eqb-true _ _ z }, refl))
-      of true z false q = inr (inr (record { form = form; reading = reading; runs = eqb-true _ _ z }, q, goes))
-
-  refused-step : (e : RecorderEvent) (k : ℕ) → RecorderStep s rec r e (refuses k leaving rec)
-  refused-step e k = inl (refl, inr (k, refl))
-
-  ticked : RecorderStep s rec r tick (recorder.tickOf s rec r)
-  unfolding recorder.tickOf recorder.tickEvent recorder.advanced every
-  ticked =
-      refused-or (λ out. RecorderStep s rec r tick out) (recorder.stepRefusals s rec r) rec _ (refused-step tick)
-      (λ ok.
-      let none = none-applies (recorder.stepRefusals s rec r) ok refl in
-      go-on tick (recorder.tickEvent s r) (not-false _ (none 2)) (none 3)
-      (of (recorder.due s (recorder.advanced s rec r) r) refl))
-    where
-      of : (d : Bool) → recorder.due s (recorder.advanced s rec r) r ≡ d
-          → Goes s rec r tick
-          (if d then sends (LeaseRequest (rec .counter + 1)) leaving recorder.requesting (recorder.advanced s rec r) r
-          else recorder.standing s (recorder.advanced s rec r) leaving recorder.advanced s rec r)
-      of true d = inl (refl, d, refl)
-      of false d = inr (inr refl)
-
-  granted-step : (x j : ℕ) → RecorderStep s rec r (grant x j) (recorder.grantOf s rec r x j)
-  unfolding recorder.grantOf recorder.grantEvent every
-  granted-step x j =
-      refused-or (λ out. RecorderStep s rec r (grant x j) out) (recorder.grantRefusals s rec r x j) rec _ (refused-step (grant x j))
-      (λ ok.
-      let none = none-applies (recorder.grantRefusals s rec r x j) ok refl in
-      let least = neither-holds (recorder.isZero j) (rec .counter <? j) (none 5) in
-      go-on (grant x j) (recorder.grantEvent s x j) (not-false _ (none 2)) (none 3)
-      (inr (inl (x, j, refl, leb-false (n s) x (none 4), positive j (eqb-false j 0 (least .0)), ltb-false (rec .counter) j (least .1), refl))))
-    where
-      positive : (j : ℕ) → (j ≡ 0 → ⊥) → 1 ≤ j
-      positive zero z = absurd (z refl)
-      positive (suc j) z = omega arith
-
-  driven : RecorderStep s rec r drive (recorder.driveOf s rec r)
-  unfolding recorder.driveOf recorder.driveEvent every
-  driven =
-      refused-or (λ out. RecorderStep s rec r drive out) (recorder.stepRefusals s rec r) rec _ (refused-step drive)
-      (λ ok.
-      let none = none-applies (recorder.stepRefusals s rec r) ok refl in
-      go-on drive (recorder.driveEvent s) (not-false _ (none 2)) (none 3) (inr (inr refl)))
-
-  pub recorder-step : (e : RecorderEvent) → RecorderStep s rec r e (recorder.stepOf s rec r e)
-  unfolding recorder.stepOf
-  recorder-step tick = ticked
-  recorder-step (grant x j) = granted-step x j
-  recorder-step drive = driven
 
 -- ---- Standby
 
@@ -262,12 +157,12 @@ module _ (w : ℕ) (s : Settings) (q : Standby) (r : ℕ) where
   begun : StandbyStep w s q r begin (standby.beginOf s q r)
   unfolding standby.beginOf
   begun =
-      refused-or (λ out. StandbyStep w s q r begin out) (standby.beginRefusals s q r) q _ (refused-standby begin) (λ ok. inr (inl (refl, refl)))
+      either-way (standby.beginRefusals s q r) q _ (λ out. StandbyStep w s q r begin out) (λ _. refused-standby begin _) (λ ok. inr (inl (refl, refl)))
 
   polled : StandbyStep w s q r poll (standby.pollWithin w s q r)
   unfolding standby.pollWithin every
   polled =
-      refused-or (λ out. StandbyStep w s q r poll out) (standby.pollRefusals s q r) q _ (refused-standby poll)
+      either-way (standby.pollRefusals s q r) q _ (λ out. StandbyStep w s q r poll out) (λ _. refused-standby poll _)
       (λ ok.
       let none = none-applies (standby.pollRefusals s q r) ok refl in
       of (not-false _ (none 4)) (standby.isLate w q r) refl)
@@ -280,7 +175,7 @@ module _ (w : ℕ) (s : Settings) (q : Standby) (r : ℕ) where
   acked : (x ts cnt : ℕ) (status : Status) → StandbyStep w s q r (ack x ts cnt status) (standby.ackWithin w s q r x ts cnt status)
   unfolding standby.ackWithin every
   acked x ts cnt status =
-      refused-or (λ out. StandbyStep w s q r (ack x ts cnt status) out) (standby.ackRefusals s q r x ts cnt) q _ (refused-standby (ack x ts cnt status))
+      either-way (standby.ackRefusals s q r x ts cnt) q _ (λ out. StandbyStep w s q r (ack x ts cnt status) out) (λ _. refused-standby (ack x ts cnt status) _)
       (λ ok.
       let none = none-applies (standby.ackRefusals s q r x ts cnt) ok refl in
       of (leb-false (n s) x (none 4)) (not-false _ (none 6)) (eqb-true ts (q .ts) (not-false _ (none 7))) (standby.isLate w q r) refl (getD (standby.keptMarks (q .places)) x false) refl)
