@@ -3,3 +3,4 @@ pub mod History
 pub mod Ghost
 pub mod Steps
 pub mod Invariant
+pub mod AtRecorder
