@@ -3,8 +3,8 @@
 use Prim.Native.Nat.{ℕ, _+_, _-_, _*_, _≤_, _<_, min}
 use native.Mathlib.Omega.{arith}
 use mathlib.Core.Path.{_≡_, refl, sym, ap, _∙_}
-use mathlib.Core.Bool.{true}
-use borrow.Author.Tests.{ltb-true, leb-true}
+use mathlib.Core.Bool.{Bool, true, false}
+use borrow.Author.Tests.{ltb-true, leb-true, leb-false}
 use Rattle.words.specs.Tests.{_<?_, _≤?_}
 use Rattle.words.proofs.Booleans.{both-hold}
 use Rattle.settings.specs.declared.Settings.{Settings}
@@ -36,3 +36,12 @@ upper {s} {clock} {g₁} {r₁} {g₂} {r₂} a b h l = omega (arith, span clock
 pub lower : {s : Settings} {clock : Clock} {g₁ r₁ g₂ r₂ : ℕ} → Reads s clock g₁ r₁ → Reads s clock g₂ r₂ → g₁ ≤ g₂
     → r₁ + min (g₂ - g₁) (2 * O s) ≤ r₂ + rounding s
 lower {s} {clock} {g₁} {r₁} {g₂} {r₂} a b h = omega (arith, span clock g₁ g₂ h, a .low, b .high)
+
+-- a clock that has gained the observers' lease: nearly so much time has passed
+pub lease-passed : {s : Settings} {clock : Clock} {g₁ r₁ g₂ r₂ : ℕ} → Reads s clock g₁ r₁ → Reads s clock g₂ r₂ → g₁ ≤ g₂ → r₁ + O s ≤ r₂
+    → g₁ + O s ≤ g₂ + rounding s
+lease-passed {s} {clock} {g₁} {r₁} {g₂} {r₂} a b h gained = by (g₂ ≤? g₁ + 2 * O s) refl
+  where
+    by : (t : Bool) → (g₂ ≤? g₁ + 2 * O s) ≡ t → g₁ + O s ≤ g₂ + rounding s
+    by true e = let u = upper a b h (leb-true g₂ (g₁ + 2 * O s) e) in omega arith
+    by false e = let l = leb-false g₂ (g₁ + 2 * O s) e in omega arith

@@ -88,6 +88,20 @@ module _ (s : Settings) (clocks : Clocks) (L : ℕ) (p : Bool) where
           set-early = λ q. ⊎-elim inl (λ d. inr (d .0, d .1, d .2, le-trans (d .3) (e .later), d .4, d .5)) (f .set-early q);
         }
 
+    pub recorder-on : {rec : Recorder} → new .S ≡ old .S → new .σ ≡ old .σ → new .h ≡ old .h → RecorderPart old now rec → RecorderPart new now′ rec
+    recorder-on {rec} a b c f =
+        record {
+          good = f .good;
+          h-past = rw c (le-trans (f .h-past) (e .later));
+          last = λ l. rw c (f .last l);
+          sent = λ k l m. rw (a, b, c) (f .sent k l m);
+          opened = λ i o. rw b (f .opened i o);
+          ended = λ z k l m.
+              let d = f .ended z k l m in
+              (d .0, d .1, λ y i. let v = d .2 y i in (v .0, rw a (v .1), e .keeps y (k + 1) (v .0) (v .2)));
+          granted = λ y j l k. rw c (e .keeps y j (old .h) (f .granted y j l k));
+        }
+
     pub standby-on : {top top′ : ℕ} {q : Standby} → top ≤ top′ → StandbyPart old counter now top q → StandbyPart new counter′ now′ top′ q
     standby-on t f =
         record {

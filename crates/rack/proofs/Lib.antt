@@ -4,3 +4,4 @@ pub mod Ghost
 pub mod Steps
 pub mod Invariant
 pub mod AtRecorder
+pub mod AtObserver

@@ -53,7 +53,7 @@ Stores s o r e o′ =
 
 pub record ObserverStep (s : Settings) (o : Observer) (r : ℕ) (e : ObserverEvent) (out : Outcome Observer) : Type 0 where
   pub stores : Stores s o r e (out .rec)
-  pub grants : (c : ℕ) → out .answer ≡ sends (LeaseGrant c) → out .rec .latest ≡ c
+  pub grants : (c : ℕ) → out .answer ≡ sends (LeaseGrant c) → (o .latest < c) × (out .rec .latest ≡ c)
   pub acks : (ts cnt : ℕ) (status : Status) → out .answer ≡ sends (CheckAck ts cnt status)
       → (e ≡ check ts) × (cnt ≡ o .latest) × (status ≡ observer.statusAt o r)
 
@@ -81,7 +81,7 @@ module _ (s : Settings) (o : Observer) (x r : ℕ) where
       of true h =
           record {
             stores = inr (c, inl refl, ltb-true _ _ h, refl, inr refl);
-            grants = λ d q. let e : c ≡ d = cc in e;
+            grants = λ d q. let e : c ≡ d = cc in (rw e at (ltb-true (o .latest) c h), e);
             acks = λ ts cnt status q. let z : _≡_ {A = ℕ} 0 1 = cc in absurd (let w : 0 ≡ 1 = z in omega arith);
           }
       of false h = idle (request c) (says "silent") r (λ m q. no-message q)
