@@ -5,3 +5,4 @@ pub mod Steps
 pub mod Invariant
 pub mod AtRecorder
 pub mod AtObserver
+pub mod AtStandby

@@ -1,0 +1,230 @@
+-- An event at the standby keeps the invariant, and when it is told dead the request that it names is doomed. Assumes nothing.
+use Prim.Native.Nat.{ℕ, zero, suc, _+_, _-_, _*_, _≤_, _<_}
+use native.Mathlib.Omega.{arith}
+use native.Mathlib.Nat.{le-trans, le-refl}
+use mathlib.Core.Path.{_≡_, refl, sym, ap, _∙_}
+use mathlib.Core.Bool.{Bool, true, false}
+use mathlib.Core.List.{List, [], _∷_, map}
+use mathlib.Core.Logic.{_⊎_, inl, inr, ⊎-elim}
+use lib.ListN.{length, getD, replicate, List·getD-map}
+use borrow.Author.Tests.{eqb-true, eqb-false}
+use Rattle.words.specs.Tests.{if_then_else_, _=?_}
+use Rattle.words.specs.Lists.{some}
+use Rattle.words.specs.Said.{Said}
+use Rattle.words.proofs.Booleans.{not-both}
+use Rattle.settings.specs.declared.Settings.{Settings}
+use Rattle.settings.specs.Settings.{n, P, O, rounding, window, refusalOf}
+use Rattle.settings.specs.Quorums.{closes, _∋_}
+use Rattle.settings.proofs.Laws.{accepted-in-range, window-law}
+use Rattle.messages.specs.declared.Status.{Status}
+use Rattle.messages.specs.declared.Status.the-variants.{Alive, Dead}
+use Rattle.messages.specs.declared.Message.{Message}
+use Rattle.messages.specs.declared.Message.the-variants.{LeaseRequest, LeaseGrant, Check, CheckAck}
+use Rattle.messages.specs.Answers.{Spoken, sends, says, saysOf}
+use Rattle.messages.specs.Outcomes.{Outcome, _leaving_}
+use Rattle.standby.specs.declared.Place.{Place}
+use Rattle.standby.specs.declared.Standby.{Standby}
+use Rattle.standby.specs.Standby.{Event, stepWithin, closed, unused, noPlaces, keptMarks, keeping, afterKeeping, verdict, greatest, saysDead, lastReading}
+use Rattle.standby.specs.Standby.Event.{begin, ack, poll}
+use Rattle.standby.specs.Claims.{Kept}
+use Rattle.standby.proofs.Forms.{form-is-kept}
+use Rattle.standby.proofs.Verdicts.{verdicts-hold}
+use Rattle.standby.proofs.Rounds.{dead-in-window}
+use Rattle.rack.specs.Clocks.{Clocks}
+use Rattle.rack.specs.Runs.{State, Sent, Party, partyKey, posted, delivered, wasSent}
+use Rattle.rack.specs.Runs.Event.{atStandby}
+use Rattle.rack.specs.Runs.Party.{recorder, standby, observer}
+use Rattle.rack.proofs.Clocks.{Reads, lower}
+use Rattle.rack.proofs.History.{All, sent-has, posted-all}
+use Rattle.rack.proofs.Ghost.{By, Ghost, Extends, stays, AckFact, Behind, Doomed, ack-on, history-on, doomed-on}
+use Rattle.rack.proofs.Steps.{StandbyStep, standby-step, no-message, no-refused-message}
+use Rattle.rack.proofs.Invariant.{StandbyPart, Inv, observer-on, standby-on, recorder-on}
+
+-- the state after the standby's step
+abbrev pub afterStandby : State → (g : ℕ) → Outcome Standby → State
+afterStandby st g out =
+    record {
+      recorder = st .recorder;
+      observers = st .observers;
+      standby = out .rec;
+      history = posted standby g (out .answer) (st .history);
+    }
+
+-- nothing is kept in empty places
+none-kept : (x : ℕ) → Kept noPlaces x → ⊥
+none-kept x e = not-both e (empty 16 x)
+  where
+    empty : (k x : ℕ) → getD (replicate k unused) x unused .kept ≡ false
+    empty zero zero = refl
+    empty zero (suc x) = refl
+    empty (suc k) zero = refl
+    empty (suc k) (suc x) = empty k x
+
+verdict-mute : (places : List Place) (m : Message) → verdict places ≡ sends m → ⊥
+unfolding verdict
+verdict-mute places m = by (greatest places =? 0) (some (saysDead (greatest places)) places)
+  where
+    by : (a b : Bool) → (if a then says "unknown" else if b then saysOf "dead" (greatest places) else saysOf "alive" (greatest places)) ≡ sends m → ⊥
+    by true b e = no-message e
+    by false true e = no-message e
+    by false false e = no-message e
+
+-- a place after a first ack: the ack's, or as it was
+place-of : (places : List Place) (x cnt : ℕ) (status : Status) (y : ℕ)
+    → ((y ≡ x) × (getD (keeping x cnt status places) y unused ≡ record { kept = true; counter = cnt; status = status }))
+    ⊎ (getD (keeping x cnt status places) y unused ≡ getD places y unused)
+place-of [] x cnt status y = inr refl
+place-of (place ∷ places) zero cnt status zero = inl (refl, refl)
+place-of (place ∷ places) zero cnt status (suc y) = inr refl
+place-of (place ∷ places) (suc x) cnt status zero = inr refl
+place-of (place ∷ places) (suc x) cnt status (suc y) = ⊎-elim (λ a. inl (ap suc (a .0), a .1)) inr (place-of places x cnt status y)
+
+module _ (s : Settings) (ok : refusalOf s ≡ 0) (w : ℕ) (window-fits : w ≤ window s) (clocks : Clocks) (L : ℕ) (p : Bool)
+    {told reg : Bool} {now : ℕ} {top : ℕ → ℕ} {st : State} (inv : Inv s clocks L p told reg now top st)
+    (g r : ℕ) (top′ : ℕ → ℕ) (later : now ≤ g) (up : (k : ℕ) → top k ≤ top′ k)
+    (read : Reads s (clocks .standby) g r) (seen : r ≤ top′ (partyKey standby))
+    (event : Event) (arrived : delivered (st .history) (atStandby g r event) ≡ true) where
+
+  abbrev counter : ℕ
+  counter = st .recorder .counter
+
+  abbrev gh : Ghost
+  gh = inv .gh
+
+  abbrev q : Standby
+  q = st .standby
+
+  abbrev out : Outcome Standby
+  out = stepWithin w s q r event
+
+  part : StandbyPart s clocks L p gh counter now (top (partyKey standby)) q
+  part = inv .standby-part
+
+  ext : Extends gh counter now gh counter g
+  ext = stays gh counter now g later
+
+  -- an ack that arrives was sent
+  ack-sent : (x ts cnt : ℕ) (status : Status) → event ≡ ack x ts cnt status → AckFact s clocks L p gh counter g x ts cnt status
+  unfolding delivered
+  ack-sent x ts cnt status e =
+      let came : wasSent (st .history) (observer x) (CheckAck ts cnt status) ≡ true = rw e at arrived in
+      ack-on s clocks L p ext
+      (sent-has (λ m. Behind s clocks L p gh counter now (m .by) (m .what) (m .time)) (observer x) (CheckAck ts cnt status) (st .history) (inv .history-part) came .1)
+
+  -- what is kept once this ack is
+  kept-with : (x cnt : ℕ) (status : Status) → event ≡ ack x (q .ts) cnt status → (y : ℕ) → Kept (keeping x cnt status (q .places)) y
+      → AckFact s clocks L p gh counter g y (q .ts) (getD (keeping x cnt status (q .places)) y unused .counter) (getD (keeping x cnt status (q .places)) y unused .status)
+  kept-with x cnt status e y k = ⊎-elim mine old (place-of (q .places) x cnt status y)
+    where
+      mine : (y ≡ x) × (getD (keeping x cnt status (q .places)) y unused ≡ record { kept = true; counter = cnt; status = status })
+          → AckFact s clocks L p gh counter g y (q .ts) (getD (keeping x cnt status (q .places)) y unused .counter) (getD (keeping x cnt status (q .places)) y unused .status)
+      mine a = rw (a .1, a .0) (ack-sent x (q .ts) cnt status e)
+
+      old : getD (keeping x cnt status (q .places)) y unused ≡ getD (q .places) y unused
+          → AckFact s clocks L p gh counter g y (q .ts) (getD (keeping x cnt status (q .places)) y unused .counter) (getD (keeping x cnt status (q .places)) y unused .status)
+      old a = rw a (ack-on s clocks L p ext (part .kept y (rw a at k)))
+
+  -- ---- the record after the step
+
+  abbrev Rest : Outcome Standby → Type 0
+  Rest o =
+      (lastReading (o .rec) ≤ top′ (partyKey standby))
+      × ((x : ℕ) → Kept (o .rec .places) x
+      → AckFact s clocks L p gh counter g x (o .rec .ts) (getD (o .rec .places) x unused .counter) (getD (o .rec .places) x unused .status))
+
+  keeps-on : (x cnt : ℕ) (status : Status) → event ≡ ack x (q .ts) cnt status → Rest (afterKeeping s q r (keeping x cnt status (q .places)))
+  unfolding afterKeeping
+  keeps-on x cnt status e = by (closes s (keptMarks (keeping x cnt status (q .places))))
+    where
+      by : (b : Bool)
+          → Rest
+          (if b then verdict (keeping x cnt status (q .places)) leaving closed r
+          else says "waiting" leaving record { «open_flag» = q .«open_flag»; ts = q .ts; «last_reading» = r; places = keeping x cnt status (q .places) })
+      by true = (seen, λ y k. absurd (none-kept y k))
+      by false = (seen, kept-with x cnt status e)
+
+  rest : (o : Outcome Standby) → StandbyStep w s q r event o → Rest o
+  rest o (inl a) = rw (a .0) (le-trans (part .read) (up _), λ x k. ack-on s clocks L p ext (part .kept x k))
+  rest o (inr (inl a)) = rw (a .1) (seen, λ x k. absurd (none-kept x k))
+  rest o (inr (inr (inl a))) = rw (a .1) (seen, λ x k. absurd (none-kept x k))
+  rest o (inr (inr (inr (inl a)))) = rw (a .1) (seen, λ x k. ack-on s clocks L p ext (part .kept x k))
+  rest o (inr (inr (inr (inr a)))) = rw (a .7) (keeps-on (a .0) (a .1) (a .2) (a .3))
+
+  after-part : StandbyPart s clocks L p gh counter g (top′ (partyKey standby)) (out .rec)
+  after-part =
+      let f = form-is-kept .by-steps w s q r event (part .sized) (part .form) in
+      let d = rest out (standby-step w s q r event) in
+      record { form = f .0; sized = f .1; read = d .0; kept = d .1 }
+
+  -- only a begin sends, and it sends its reading
+  after-keeping-mute : (places : List Place) (m : Message) → afterKeeping s q r places .answer ≡ sends m → ⊥
+  unfolding afterKeeping
+  after-keeping-mute places m = by (closes s (keptMarks places))
+    where
+      by : (b : Bool)
+          → (if b then verdict places leaving closed r
+          else says "waiting" leaving record { «open_flag» = q .«open_flag»; ts = q .ts; «last_reading» = r; places = places })
+          .answer
+          ≡ sends m
+          → ⊥
+      by true e = verdict-mute places m e
+      by false e = no-message e
+
+  checks : (o : Outcome Standby) → StandbyStep w s q r event o → (m : Message) → o .answer ≡ sends m → m ≡ Check r
+  checks o (inl a) m e = no-refused-message (sym (a .1 .1) ∙ e)
+  checks o (inr (inl a)) m e = same (sym (ap (λ (o : Outcome Standby). o .answer) (a .1)) ∙ e)
+    where
+      same : sends (Check r) ≡ sends m → m ≡ Check r
+      same e = cc
+  checks o (inr (inr (inl a))) m e = no-message (sym (ap (λ (o : Outcome Standby). o .answer) (a .1)) ∙ e)
+  checks o (inr (inr (inr (inl a)))) m e = no-message (sym (ap (λ (o : Outcome Standby). o .answer) (a .1)) ∙ e)
+  checks o (inr (inr (inr (inr a)))) m e = absurd (after-keeping-mute (keeping (a .0) (a .1) (a .2) (q .places)) m (sym (ap (λ (o : Outcome Standby). o .answer) (a .7)) ∙ e))
+
+  news : (m : Message) → out .answer ≡ sends m → Behind s clocks L p gh counter g standby m g
+  news m e = rw (checks out (standby-step w s q r event) m e) (read, le-refl g)
+
+  -- ---- told dead
+
+  is-kept : (places : List Place) (y : ℕ) → keptMarks places ∋ y → Kept places y
+  is-kept places y m = sym (List·getD-map (λ place. place .kept) places y unused) ∙ m
+
+  doomed : (m : ℕ) → out .answer ≡ saysOf "dead" m → Doomed s clocks L p gh counter g m
+  doomed m told-dead =
+      let d = dead-in-window w s q r event m told-dead in
+      let places = keeping (d .0) (d .1) (d .2) (q .places) in
+      let v = verdicts-hold .dead places m (d .6) in
+      let one = v .2 in
+      let each = kept-with (d .0) (d .1) (d .2) (d .3) in
+      let named = each (one .0) (one .1) in
+      let since : gh .S m + O s ≤ named .said-at + rounding s = rw (one .2) at (named .dead (one .3) (rw (one .2) (v .0))) in
+      let spare = window-law s ok in
+      record {
+        sent = v .0;
+        known = rw (one .2) at (named .known);
+        over = omega (arith, named .past);
+        set = keptMarks places;
+        query = d .5;
+        low = λ y marked j v′ b early.
+            let k = is-kept places y marked in
+            let a = each y k in
+            let gain = lower (a .begun) read (le-trans (a .after) (a .past)) in
+            let above = verdicts-hold .is-greatest places .none-higher y k in
+            let less = a .low j v′ b (omega (arith, early, since, named .past, a .after, a .past, gain, d .4, spare, window-fits, accepted-in-range s ok .P-least)) in
+            omega (arith, above, less, v .1);
+      }
+
+  pub standby-kept : (told′ : Bool) → (told′ ≡ true → (told ≡ true) ⊎ ((m : ℕ) × (out .answer ≡ saysOf "dead" m)))
+      → Inv s clocks L p told′ reg g top′ (afterStandby st g out)
+  standby-kept told′ why =
+      record {
+        gh = gh;
+        recorder-part = recorder-on s clocks L p ext refl refl refl (inv .recorder-part);
+        observer-part = λ x. observer-on s clocks L p ext (up _) (λ j v b. b) (inv .observer-part x);
+        standby-part = after-part;
+        history-part =
+            posted-all (λ m. Behind s clocks L p gh counter g (m .by) (m .what) (m .time)) standby g (out .answer) (st .history)
+            (history-on s clocks L p ext (inv .history-part)) news;
+        early = inv .early;
+        doom = λ t. ⊎-elim (λ before. let d = inv .doom before in (d .0, doomed-on s clocks L p ext (d .1))) (λ n. (n .0, doomed (n .0) (n .1))) (why t);
+        registered-early = inv .registered-early;
+      }
