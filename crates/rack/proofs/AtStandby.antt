@@ -51,7 +51,7 @@ afterStandby st g out =
     }
 
 -- nothing is kept in empty places
-none-kept : (x : ℕ) → Kept noPlaces x → ⊥
+pub none-kept : (x : ℕ) → Kept noPlaces x → ⊥
 none-kept x e = not-both e (empty 16 x)
   where
     empty : (k x : ℕ) → getD (replicate k unused) x unused .kept ≡ false

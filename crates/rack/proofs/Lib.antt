@@ -6,3 +6,4 @@ pub mod Invariant
 pub mod AtRecorder
 pub mod AtObserver
 pub mod AtStandby
+pub mod Along
