@@ -55,7 +55,6 @@ put-each F observers x o mine others y = by (y =? x) refl
 module _ (s : Settings) (ok : refusalOf s ≡ 0) (clocks : Clocks) (L : ℕ) (p : Bool)
     {told reg : Bool} {now : ℕ} {top : ℕ → ℕ} {st : State} (inv : Inv s clocks L p told reg now top st)
     (x g : ℕ) (top′ : ℕ → ℕ) (later : now ≤ g) (up : (k : ℕ) → top k ≤ top′ k) where
-
   abbrev counter : ℕ
   counter = st .recorder .counter
 
@@ -126,7 +125,6 @@ module _ (s : Settings) (ok : refusalOf s ≡ 0) (clocks : Clocks) (L : ℕ) (p 
 
   module _ (r : ℕ) (read : Reads s (clocks .observer x) g r) (no-fall : top (partyKey (observer x)) ≤ r) (seen : r ≤ top′ (partyKey (observer x)))
       (event : Event) (arrived : delivered (st .history) (atObserver x g r event) ≡ true) (soon : p ≡ true → (c : ℕ) → Arrives event c → g ≤ L) where
-
     abbrev out : Outcome Observer
     out = stepOf s o x r event
 

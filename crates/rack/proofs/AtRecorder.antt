@@ -66,7 +66,6 @@ standing-mute s rec m = by (registered s rec)
 module _ (s : Settings) (ok : refusalOf s ≡ 0) (clocks : Clocks) (L : ℕ) (p : Bool)
     {told reg : Bool} {now : ℕ} {top : ℕ → ℕ} {st : State} (inv : Inv s clocks L p told reg now top st)
     (g r : ℕ) (top′ : ℕ → ℕ) (later : now ≤ g) (read : Reads s (clocks .recorder) g r) (up : (k : ℕ) → top k ≤ top′ k) where
-
   abbrev rec : Recorder
   rec = st .recorder
 
@@ -156,14 +155,13 @@ module _ (s : Settings) (ok : refusalOf s ≡ 0) (clocks : Clocks) (L : ℕ) (p 
 
     -- it had its grants, and they were stored by then
     ends-now : (c : ℕ) → 1 ≤ c → IsOpen rec c → c < oldest (next .rec) → EndedFact s clocks L p gh c
-    ends-now c l is-open below =
-        (
-          granted rec (c + 1),
-          closed-granted s rec r event (part .good .size) on c (is-open .0) below,
-          λ y m.
-              let g = leb-true (c + 1) (getD (rec .grants) y 0) (sym (granted-at rec (c + 1) y (omega arith)) ∙ m) in
-              (gh .h, in-time c l is-open, part .granted y (c + 1) (omega arith) g),
-        )
+    ends-now c l is-open below = (
+      granted rec (c + 1),
+      closed-granted s rec r event (part .good .size) on c (is-open .0) below,
+      λ y m.
+          let g = leb-true (c + 1) (getD (rec .grants) y 0) (sym (granted-at rec (c + 1) y (omega arith)) ∙ m) in
+          (gh .h, in-time c l is-open, part .granted y (c + 1) (omega arith) g),
+    )
 
     ended-after : (c : ℕ) → 1 ≤ c → c < oldest (next .rec) → c ≤ rec .counter → EndedFact s clocks L p gh c
     ended-after c l below k = by (c <? oldest rec) refl

@@ -84,7 +84,6 @@ module _ (s : Settings) (ok : refusalOf s ≡ 0) (w : ℕ) (window-fits : w ≤ 
     (g r : ℕ) (top′ : ℕ → ℕ) (later : now ≤ g) (up : (k : ℕ) → top k ≤ top′ k)
     (read : Reads s (clocks .standby) g r) (seen : r ≤ top′ (partyKey standby))
     (event : Event) (arrived : delivered (st .history) (atStandby g r event) ≡ true) where
-
   abbrev counter : ℕ
   counter = st .recorder .counter
 

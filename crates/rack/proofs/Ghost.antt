@@ -158,12 +158,11 @@ module _ (s : Settings) (clocks : Clocks) (L : ℕ) (p : Bool) where
         }
 
     pub ended-on : {c : ℕ} → c ≤ counter → EndedFact old c → EndedFact new c
-    ended-on {c} k f =
-        (
-          f .0,
-          f .1,
-          λ y m. let g = f .2 y m in (g .0, rw (e .same-S c k) (g .1), e .keeps y (c + 1) (g .0) (g .2)),
-        )
+    ended-on {c} k f = (
+      f .0,
+      f .1,
+      λ y m. let g = f .2 y m in (g .0, rw (e .same-S c k) (g .1), e .keeps y (c + 1) (g .0) (g .2)),
+    )
 
     pub doomed-on : {c : ℕ} → Doomed old counter now c → Doomed new counter′ now′ c
     doomed-on {c} d =

@@ -7,3 +7,4 @@ pub mod AtRecorder
 pub mod AtObserver
 pub mod AtStandby
 pub mod Along
+pub mod Safety
