@@ -22,8 +22,9 @@ use Rattle.messages.specs.declared.Message.the-variants.{LeaseRequest, LeaseGra
 use Rattle.messages.specs.Outcomes.{Outcome, _leaving_}
 use Rattle.messages.proofs.Outcomes.{either-way}
 use Rattle.recorder.specs.declared.Recorder.{Recorder}
-use Rattle.recorder.specs.Recorder.{Event as RecorderEvent, fresh as freshRecorder, stepOf as recorderStep, advanced, due, requesting, granting, registered, standing, tickEvent, grantEvent, driveEvent}
+use Rattle.recorder.specs.Recorder.{Event as RecorderEvent, fresh as freshRecorder, stepOf as recorderStep, advanced, due, requesting, granting, granted, registered, standing, tickEvent, grantEvent, driveEvent}
 use Rattle.recorder.specs.Recorder.Event.{tick, grant, drive}
+use Rattle.recorder.proofs.Grants.{granted-at}
 use Rattle.recorder.proofs.Ways.{eventOf, Ways, each-way}
 use Rattle.recorder.proofs.Keeping.{Good, form-is-kept}
 use Rattle.recorder.proofs.Formed.{formed}
@@ -31,7 +32,7 @@ use Rattle.observer.specs.declared.Observer.{Observer}
 use Rattle.observer.specs.Observer.{Event as ObserverEvent, stepOf as observerStep, requestRefusals, cutRefusals, checkRefusals, requestOf, cutOf, checkOf}
 use Rattle.observer.specs.Observer.Event.{request, cut, check}
 use Rattle.observer.proofs.Laws.{form-is-kept as observer-form}
-use Rattle.standby.specs.Standby.{Event as StandbyEvent, stepWithin}
+use Rattle.standby.specs.Standby.{Event as StandbyEvent, stepWithin, noPlaces}
 use Rattle.standby.proofs.Forms.{form-is-kept as standby-form}
 use Rattle.rack.specs.Clocks.{Clocks, reads}
 use Rattle.rack.specs.Runs.{Rules, oursWithin, Event, time, Party, partyKey, State, start, perform, posted, inTime, Reading, readingsAt, rising, onClock, delivered, stateAfter, answerTo, isRun}
@@ -41,10 +42,10 @@ use Rattle.rack.proofs.Clocks.{Reads, is-reading}
 use Rattle.rack.proofs.History.{All, none}
 use Rattle.rack.proofs.Ghost.{By, Ghost}
 use Rattle.rack.proofs.Steps.{Arrives}
-use Rattle.rack.proofs.Invariant.{RecorderPart, ObserverPart, StandbyPart, Inv}
+use Rattle.rack.proofs.Invariant.{RecorderPart, ObserverPart, StandbyPart, Marks, Inv}
 use Rattle.rack.proofs.AtRecorder.{afterRecorder, recorder-kept}
 use Rattle.rack.proofs.AtObserver.{afterObserver, observer-kept, crash-kept}
-use Rattle.rack.proofs.AtStandby.{afterStandby, standby-kept, none-kept}
+use Rattle.rack.proofs.AtStandby.{afterStandby, ShowsFrom, standby-kept, none-kept}
 
 -- ---- time and readings so far
 
@@ -183,15 +184,19 @@ observer-not-dead s o x r e m q = dead-has-one m q (by e)
     by (cut c k) = either-way (cutRefusals s o x r c k) o _ (λ out. values-of (out .answer) ≡ 0) (λ _. refl) (λ _. refl)
     by (check ts) = either-way (checkRefusals s o x r ts) o _ (λ out. values-of (out .answer) ≡ 0) (λ _. refl) (λ _. refl)
 
+-- a run that has come to nothing yet
+abbrev pub nothing : Marks
+nothing = record { told = false; reg = false; ts = 0; places = noPlaces }
+
 module _ (s : Settings) (ok : refusalOf s ≡ 0) (w : Settings → ℕ) (window-fits : w s ≤ window s) (clocks : Clocks) (L : ℕ) (p : Bool) where
   abbrev rules : Rules
   rules = oursWithin w
 
   -- the invariant of a list of events
-  abbrev pub Holds : (told reg : Bool) → List Event → Type 0
-  Holds told reg events = Inv s clocks L p told reg (nowOf events) (topOf events) (stateAfter rules s events)
+  abbrev pub Holds : Marks → List Event → Type 0
+  Holds marks events = Inv s clocks L p marks (nowOf events) (topOf events) (stateAfter rules s events)
 
-  pub at-first : Holds false false []
+  pub at-first : Holds nothing []
   unfolding nowOf topOf stateAfter
   at-first =
       let f = form-is-kept .at-first s in
@@ -225,13 +230,10 @@ module _ (s : Settings) (ok : refusalOf s ≡ 0) (w : Settings → ℕ) (window-
         early = λ q y j v b. absurd b;
         doom = λ t. absurd (not-both t refl);
         registered-early = λ t. absurd (not-both t refl);
+        noted = λ x k. absurd (none-kept x k);
       }
 
-  module _ (told reg : Bool) (past : List Event) (inv : Holds told reg past) where
-    -- told dead before, or in this very event
-    abbrev Tells : Bool → Event → Type 0
-    Tells told′ e = told′ ≡ true → (told ≡ true) ⊎ ((m : ℕ) × (answerTo rules s past e ≡ saysOf "dead" m))
-
+  module _ (marks : Marks) (past : List Event) (inv : Holds marks past) where
     reading-of : (e : Event) (now : Reading) → readingsAt e ≡ now ∷ [] → rising past e ≡ true → topOf past (now .who) ≤ now .r
     unfolding rising every
     reading-of e now only h =
@@ -246,21 +248,7 @@ module _ (s : Settings) (ok : refusalOf s ≡ 0) (w : Settings → ℕ) (window-
     unfolding topOf
     up e k = top-up (readingsAt e) k (topOf past k)
 
-    -- an event that tells nothing keeps what was told
-    weaker : (told′ : Bool) (events : List Event) → (told′ ≡ true → told ≡ true) → Holds told reg events → Holds told′ reg events
-    weaker told′ events why i =
-        record {
-          gh = i .gh;
-          recorder-part = i .recorder-part;
-          observer-part = i .observer-part;
-          standby-part = i .standby-part;
-          history-part = i .history-part;
-          early = i .early;
-          doom = λ t. i .doom (why t);
-          registered-early = i .registered-early;
-        }
-
-    at-recorder : (g r : ℕ) (e : RecorderEvent) → Adds rules s clocks past (atRecorder g r e) → Holds told reg (atRecorder g r e ∷ past)
+    at-recorder : (g r : ℕ) (e : RecorderEvent) → Adds rules s clocks past (atRecorder g r e) → Holds marks (atRecorder g r e ∷ past)
     unfolding nowOf time stateAfter perform onClock
     at-recorder g r e add =
         recorder-kept s ok clocks L p inv g r (topOf (atRecorder g r e ∷ past)) (time-kept past (atRecorder g r e) (add .in-time))
@@ -268,7 +256,7 @@ module _ (s : Settings) (ok : refusalOf s ≡ 0) (w : Settings → ℕ) (window-
         (up (atRecorder g r e)) e (add .arrived)
 
     at-observer : (x g r : ℕ) (e : ObserverEvent) → Adds rules s clocks past (atObserver x g r e) → (p ≡ true → Early L (atObserver x g r e))
-        → Holds told reg (atObserver x g r e ∷ past)
+        → Holds marks (atObserver x g r e ∷ past)
     unfolding nowOf time stateAfter perform onClock readingsAt
     at-observer x g r e add soon =
         observer-kept s ok clocks L p inv x g (topOf (atObserver x g r e ∷ past)) (time-kept past (atObserver x g r e) (add .in-time)) (up (atObserver x g r e)) r
@@ -277,26 +265,64 @@ module _ (s : Settings) (ok : refusalOf s ≡ 0) (w : Settings → ℕ) (window-
         (seen-of (atObserver x g r e) (record { who = partyKey (observer x); r = r }) refl)
         e (add .arrived) soon
 
-    at-standby : (g r : ℕ) (e : StandbyEvent) → Adds rules s clocks past (atStandby g r e) → (told′ : Bool) → Tells told′ (atStandby g r e)
-        → Holds told′ reg (atStandby g r e ∷ past)
-    unfolding nowOf time stateAfter perform onClock readingsAt answerTo
-    at-standby g r e add told′ why =
-        standby-kept s ok (w s) window-fits clocks L p inv g r (topOf (atStandby g r e ∷ past)) (time-kept past (atStandby g r e) (add .in-time)) (up (atStandby g r e))
-        (is-reading s (clocks .standby) g r (both-hold (reads s (clocks .standby) g r) (r ≤? topReading) (add .on-clock) .0))
-        (seen-of (atStandby g r e) (record { who = partyKey standby; r = r }) refl)
-        e (add .arrived) told′ why
+    -- what an event at the standby may show
+    abbrev pub ShowsAt : (g r : ℕ) → StandbyEvent → Marks → Type 0
+    ShowsAt g r e marks′ = ShowsFrom marks (stateAfter rules s past .standby) e (stepWithin (w s) s (stateAfter rules s past .standby) r e .answer) marks′
 
-    at-crash : (x g : ℕ) → Adds rules s clocks past (crash x g) → Holds told reg (crash x g ∷ past)
+    at-crash : (x g : ℕ) → Adds rules s clocks past (crash x g) → Holds marks (crash x g ∷ past)
     unfolding nowOf time stateAfter perform
     at-crash x g add =
         crash-kept s ok clocks L p inv x g (topOf (crash x g ∷ past)) (time-kept past (crash x g) (add .in-time)) (up (crash x g))
 
-    pub keeps : (e : Event) → Adds rules s clocks past e → (p ≡ true → Early L e) → (told′ : Bool) → Tells told′ e → Holds told′ reg (e ∷ past)
+    -- at the standby, with what the event shows
+    pub keeps-standby : (g r : ℕ) (e : StandbyEvent) (add : Adds rules s clocks past (atStandby g r e)) (marks′ : Marks) → ShowsAt g r e marks′
+        → Holds marks′ (atStandby g r e ∷ past)
+    unfolding nowOf time stateAfter perform onClock readingsAt
+    keeps-standby g r e add marks′ shows =
+        standby-kept s ok (w s) window-fits clocks L p inv g r (topOf (atStandby g r e ∷ past)) (time-kept past (atStandby g r e) (add .in-time)) (up (atStandby g r e))
+        (is-reading s (clocks .standby) g r (both-hold (reads s (clocks .standby) g r) (r ≤? topReading) (add .on-clock) .0))
+        (seen-of (atStandby g r e) (record { who = partyKey standby; r = r }) refl)
+        e (add .arrived) marks′ shows
+
+    pub keeps : (e : Event) → Adds rules s clocks past e → (p ≡ true → Early L e) → Holds marks (e ∷ past)
+    keeps (atRecorder g r e) add soon = at-recorder g r e add
+    keeps (atObserver x g r e) add soon = at-observer x g r e add soon
+    keeps (atStandby g r e) add soon = keeps-standby g r e add marks (record { dead = inl; registered = refl; round = inl (refl, refl) })
+    keeps (crash x g) add soon = at-crash x g add
+
+    -- told dead in this very event
+    abbrev pub told-dead : Marks
+    told-dead = record { told = true; reg = marks .reg; ts = marks .ts; places = marks .places }
+
+    pub tells : (e : Event) → Adds rules s clocks past e → (m : ℕ) → answerTo rules s past e ≡ saysOf "dead" m → Holds told-dead (e ∷ past)
     unfolding answerTo perform
-    keeps (atRecorder g r e) add soon told′ why =
-        weaker told′ (atRecorder g r e ∷ past) (λ t. ⊎-elim (λ b. b) (λ d. absurd (recorder-not-dead s (stateAfter rules s past .recorder) r e (d .0) (d .1))) (why t)) (at-recorder g r e add)
-    keeps (atObserver x g r e) add soon told′ why =
-        weaker told′ (atObserver x g r e ∷ past) (λ t. ⊎-elim (λ b. b) (λ d. absurd (observer-not-dead s (stateAfter rules s past .observers x) x r e (d .0) (d .1))) (why t)) (at-observer x g r e add soon)
-    keeps (atStandby g r e) add soon told′ why = at-standby g r e add told′ why
-    keeps (crash x g) add soon told′ why =
-        weaker told′ (crash x g ∷ past) (λ t. ⊎-elim (λ b. b) (λ d. absurd (values-apart (d .1))) (why t)) (at-crash x g add)
+    tells (atRecorder g r e) add m dead = absurd (recorder-not-dead s (stateAfter rules s past .recorder) r e m dead)
+    tells (atObserver x g r e) add m dead = absurd (observer-not-dead s (stateAfter rules s past .observers x) x r e m dead)
+    tells (atStandby g r e) add m dead =
+        keeps-standby g r e add told-dead (record { dead = λ t. inr (m, dead); registered = refl; round = inl (refl, refl) })
+    tells (crash x g) add m dead = absurd (values-apart dead)
+
+    -- a recorder that has registered: its first grants were stored early
+    abbrev pub has-registered : Marks
+    has-registered = record { told = marks .told; reg = true; ts = marks .ts; places = marks .places }
+
+    pub registers : registered s (stateAfter rules s past .recorder) ≡ true → Holds has-registered past
+    unfolding registered
+    registers is =
+        record {
+          gh = inv .gh;
+          recorder-part = inv .recorder-part;
+          observer-part = inv .observer-part;
+          standby-part = inv .standby-part;
+          history-part = inv .history-part;
+          early = inv .early;
+          doom = inv .doom;
+          registered-early = λ _ q. (
+            granted (stateAfter rules s past .recorder) 1,
+            is,
+            λ y m.
+                let g = leb-true 1 (getD (stateAfter rules s past .recorder .grants) y 0) (sym (granted-at (stateAfter rules s past .recorder) 1 y (le-refl 1)) ∙ m) in
+                inv .early q y 1 (inv .gh .h) (inv .recorder-part .granted y 1 (le-refl 1) g),
+          );
+          noted = inv .noted;
+        }

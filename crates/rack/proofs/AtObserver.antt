@@ -28,9 +28,9 @@ use Rattle.rack.specs.Runs.Event.{atObserver}
 use Rattle.rack.specs.Runs.Party.{recorder, standby, observer}
 use Rattle.rack.proofs.Clocks.{Reads, lower, lease-passed}
 use Rattle.rack.proofs.History.{All, sent-has, posted-all}
-use Rattle.rack.proofs.Ghost.{By, Ghost, Reach, Extends, stays, AckFact, Behind, StoreFact, history-on, doomed-on}
+use Rattle.rack.proofs.Ghost.{By, Ghost, Reach, Extends, stays, AckFact, Behind, StoreFact, history-on, ack-on, doomed-on}
 use Rattle.rack.proofs.Steps.{Arrives, ObserverStep, observer-step}
-use Rattle.rack.proofs.Invariant.{RecorderPart, ObserverPart, Inv, observer-on, standby-on, recorder-on}
+use Rattle.rack.proofs.Invariant.{RecorderPart, ObserverPart, Marks, Inv, observer-on, standby-on, recorder-on}
 
 -- the state after observer x has changed
 abbrev pub afterObserver : State → (x g : ℕ) → Observer → Said Spoken → State
@@ -53,7 +53,7 @@ put-each F observers x o mine others y = by (y =? x) refl
     by false e = others y (eqb-false y x e)
 
 module _ (s : Settings) (ok : refusalOf s ≡ 0) (clocks : Clocks) (L : ℕ) (p : Bool)
-    {told reg : Bool} {now : ℕ} {top : ℕ → ℕ} {st : State} (inv : Inv s clocks L p told reg now top st)
+    {marks : Marks} {now : ℕ} {top : ℕ → ℕ} {st : State} (inv : Inv s clocks L p marks now top st)
     (x g : ℕ) (top′ : ℕ → ℕ) (later : now ≤ g) (up : (k : ℕ) → top k ≤ top′ k) where
   abbrev counter : ℕ
   counter = st .recorder .counter
@@ -73,7 +73,7 @@ module _ (s : Settings) (ok : refusalOf s ≡ 0) (clocks : Clocks) (L : ℕ) (p 
       → (p ≡ true → (y j v : ℕ) → By (gh′ .reached) y j v → By (gh′ .reached) y j L)
       → ObserverPart s clocks L p gh′ counter g (top′ (partyKey (observer x))) x o′
       → ((m : Message) → answer ≡ sends m → Behind s clocks L p gh′ counter g (observer x) m g)
-      → Inv s clocks L p told reg g top′ (afterObserver st x g o′ answer)
+      → Inv s clocks L p marks g top′ (afterObserver st x g o′ answer)
   build gh′ o′ answer ext same-S same-σ same-h others soon mine news =
       record {
         gh = gh′;
@@ -88,6 +88,7 @@ module _ (s : Settings) (ok : refusalOf s ≡ 0) (clocks : Clocks) (L : ℕ) (p 
         early = soon;
         doom = λ t. let d = inv .doom t in (d .0, doomed-on s clocks L p ext (d .1));
         registered-early = λ t q. let d = inv .registered-early t q in (d .0, d .1, λ y m. ext .keeps y 1 L (d .2 y m));
+        noted = λ x k. ack-on s clocks L p ext (inv .noted x k);
       }
 
   -- the stored numbers stay
@@ -113,7 +114,7 @@ module _ (s : Settings) (ok : refusalOf s ≡ 0) (clocks : Clocks) (L : ℕ) (p 
         set-early = λ q. rw d (f .set-early q);
       }
 
-  pub crash-kept : Inv s clocks L p told reg g top′
+  pub crash-kept : Inv s clocks L p marks g top′
       (record { recorder = st .recorder; observers = put (st .observers) x (restartOf o); standby = st .standby; history = st .history })
   unfolding posted restartOf
   crash-kept =
@@ -128,7 +129,7 @@ module _ (s : Settings) (ok : refusalOf s ≡ 0) (clocks : Clocks) (L : ℕ) (p 
     abbrev out : Outcome Observer
     out = stepOf s o x r event
 
-    step : ObserverStep s o r event out
+    step : ObserverStep s o x r event out
     step = observer-step s o x r event
 
     form-after : hasForm s (out .rec) ≡ true
@@ -190,6 +191,7 @@ module _ (s : Settings) (ok : refusalOf s ≡ 0) (clocks : Clocks) (L : ℕ) (p 
         let a = step .acks ts cnt status q in
         let t = asked ts (a .0) in
         record {
+          is-observer = a .3;
           said-at = g;
           begun-at = t .0;
           begun = t .1 .0;
@@ -211,14 +213,14 @@ module _ (s : Settings) (ok : refusalOf s ≡ 0) (clocks : Clocks) (L : ℕ) (p 
 
     -- ---- the stored numbers stay, the deadline is renewed, or the latest too
 
-    stays-stored : out .rec .latest ≡ o .latest → out .rec .deadline ≡ o .deadline → Inv s clocks L p told reg g top′ (afterObserver st x g (out .rec) (out .answer))
+    stays-stored : out .rec .latest ≡ o .latest → out .rec .deadline ≡ o .deadline → Inv s clocks L p marks g top′ (afterObserver st x g (out .rec) (out .answer))
     stays-stored l d =
         build gh (out .rec) (out .answer) (stays gh counter now g later) refl refl refl (λ y j v other b. b) (inv .early)
         (as-stored (out .rec) l d form-after)
         (news gh refl (λ c q. let f = step .grants c q in absurd (omega (arith, f .0, f .1, l))) (λ ts e j v b h. part .highest j v b))
 
     renewed : (c : ℕ) → Arrives event c → out .rec .deadline ≡ r + O s → out .rec .latest ≡ o .latest
-        → Inv s clocks L p told reg g top′ (afterObserver st x g (out .rec) (out .answer))
+        → Inv s clocks L p marks g top′ (afterObserver st x g (out .rec) (out .answer))
     renewed c arrives d l =
         build gh (out .rec) (out .answer) (stays gh counter now g later) refl refl refl (λ y j v other b. b) (inv .early)
         (record {
@@ -263,7 +265,7 @@ module _ (s : Settings) (ok : refusalOf s ≡ 0) (clocks : Clocks) (L : ℕ) (p 
           clash′ : (k : ℕ) × (event ≡ cut c k) → ⊥
           clash′ a = let b = a .1 in let z : _≡_ {A = ℕ} 0 1 = cc in omega arith
 
-      stored : Inv s clocks L p told reg g top′ (afterObserver st x g (out .rec) (out .answer))
+      stored : Inv s clocks L p marks g top′ (afterObserver st x g (out .rec) (out .answer))
       stored =
           let sent = requested c arrives .1 in
           build remembered (out .rec) (out .answer) on-remembered refl refl refl
@@ -289,7 +291,7 @@ module _ (s : Settings) (ok : refusalOf s ≡ 0) (clocks : Clocks) (L : ℕ) (p 
           (λ k q. let f = step .grants k q in inl (refl, omega (arith, f .1, l), le-refl g))
           (λ ts e j v b h. absurd (no-check ts e)))
 
-    pub observer-kept : Inv s clocks L p told reg g top′ (afterObserver st x g (out .rec) (out .answer))
+    pub observer-kept : Inv s clocks L p marks g top′ (afterObserver st x g (out .rec) (out .answer))
     observer-kept =
         ⊎-elim (λ a. stays-stored (a .0) (a .1))
         (λ a. ⊎-elim (renewed (a .0) (a .1) (a .3)) (stored (a .0) (a .1) (a .2) (a .3)) (a .4))

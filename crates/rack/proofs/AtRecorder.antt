@@ -30,9 +30,9 @@ use Rattle.rack.specs.Runs.Event.{atRecorder}
 use Rattle.rack.specs.Runs.Party.{recorder, standby, observer}
 use Rattle.rack.proofs.Clocks.{Reads, lower}
 use Rattle.rack.proofs.History.{All, sent-has, posted-all}
-use Rattle.rack.proofs.Ghost.{By, Ghost, Extends, stays, Behind, EndedFact, history-on, ended-on, doomed-on}
+use Rattle.rack.proofs.Ghost.{By, Ghost, Extends, stays, Behind, EndedFact, ack-on, history-on, ended-on, doomed-on}
 use Rattle.rack.proofs.Steps.{no-message, no-refused-message}
-use Rattle.rack.proofs.Invariant.{RecorderPart, Inv, observer-on, standby-on, by-weaker}
+use Rattle.rack.proofs.Invariant.{RecorderPart, Marks, Inv, observer-on, standby-on, by-weaker}
 
 -- the state after the recorder's step
 abbrev pub afterRecorder : State → (g : ℕ) → Outcome Recorder → State
@@ -64,7 +64,7 @@ standing-mute s rec m = by (registered s rec)
     by false e = no-message e
 
 module _ (s : Settings) (ok : refusalOf s ≡ 0) (clocks : Clocks) (L : ℕ) (p : Bool)
-    {told reg : Bool} {now : ℕ} {top : ℕ → ℕ} {st : State} (inv : Inv s clocks L p told reg now top st)
+    {marks : Marks} {now : ℕ} {top : ℕ → ℕ} {st : State} (inv : Inv s clocks L p marks now top st)
     (g r : ℕ) (top′ : ℕ → ℕ) (later : now ≤ g) (read : Reads s (clocks .recorder) g r) (up : (k : ℕ) → top k ≤ top′ k) where
   abbrev rec : Recorder
   rec = st .recorder
@@ -80,7 +80,7 @@ module _ (s : Settings) (ok : refusalOf s ≡ 0) (clocks : Clocks) (L : ℕ) (p 
       → ((y j v : ℕ) → By (gh′ .reached) y j v → By (gh .reached) y j v)
       → RecorderPart s clocks L p gh′ g (out .rec)
       → ((m : Message) → out .answer ≡ sends m → Behind s clocks L p gh′ (out .rec .counter) g recorder m g)
-      → Inv s clocks L p told reg g top′ (afterRecorder st g out)
+      → Inv s clocks L p marks g top′ (afterRecorder st g out)
   build gh′ out ext same mine news =
       record {
         gh = gh′;
@@ -93,11 +93,12 @@ module _ (s : Settings) (ok : refusalOf s ≡ 0) (clocks : Clocks) (L : ℕ) (p 
         early = λ q y j v b. ext .keeps y j L (inv .early q y j v (same y j v b));
         doom = λ t. let d = inv .doom t in (d .0, doomed-on s clocks L p ext (d .1));
         registered-early = λ t q. let d = inv .registered-early t q in (d .0, d .1, λ y m. ext .keeps y 1 L (d .2 y m));
+        noted = λ x k. ack-on s clocks L p ext (inv .noted x k);
       }
 
   -- the record as it came
   unchanged : (out : Outcome Recorder) → out .rec ≡ rec → ((m : Message) → out .answer ≡ sends m → ⊥)
-      → Inv s clocks L p told reg g top′ (afterRecorder st g out)
+      → Inv s clocks L p marks g top′ (afterRecorder st g out)
   unchanged out e mute =
       build gh out (rw e (stays gh (rec .counter) now g later)) (λ y j v b. b)
       (rw e
@@ -120,7 +121,7 @@ module _ (s : Settings) (ok : refusalOf s ≡ 0) (clocks : Clocks) (L : ℕ) (p 
   on-here = record { same-S = λ c l. refl; counts = le-refl (rec .counter); later = later; keeps = λ y j v b. b; only-now = λ y j v b. inl b }
 
   stopping : (out : Outcome Recorder) → out ≡ (says "stopped" leaving halted rec r) → Good s (out .rec)
-      → Inv s clocks L p told reg g top′ (afterRecorder st g out)
+      → Inv s clocks L p marks g top′ (afterRecorder st g out)
   stopping out e good =
       build now-here out (rw e on-here) (λ y j v b. b)
       (rw e
@@ -190,7 +191,7 @@ module _ (s : Settings) (ok : refusalOf s ≡ 0) (clocks : Clocks) (L : ℕ) (p 
     oldest-rises : oldest rec ≤ oldest (next .rec)
     oldest-rises = omega (arith, oldest-after s rec r event (part .good .size) on)
 
-    quiet : Good s (next .rec) → Quiet s rec r next → Inv s clocks L p told reg g top′ (afterRecorder st g next)
+    quiet : Good s (next .rec) → Quiet s rec r next → Inv s clocks L p marks g top′ (afterRecorder st g next)
     quiet good q =
         build now-here next (rw (q .counter) on-here) (λ y j v b. b)
         (record {
@@ -223,7 +224,7 @@ module _ (s : Settings) (ok : refusalOf s ≡ 0) (clocks : Clocks) (L : ℕ) (p 
     on-remembered =
         record { same-S = earlier-S; counts = omega arith; later = later; keeps = λ y j v b. b; only-now = λ y j v b. inl b }
 
-    asking : Good s (next .rec) → Asking s rec r next → Inv s clocks L p told reg g top′ (afterRecorder st g next)
+    asking : Good s (next .rec) → Asking s rec r next → Inv s clocks L p marks g top′ (afterRecorder st g next)
     asking good a =
         build remembered next (rw (a .counter) on-remembered) (λ y j v b. b)
         (record {
@@ -268,15 +269,15 @@ module _ (s : Settings) (ok : refusalOf s ≡ 0) (clocks : Clocks) (L : ℕ) (p 
             message-same : {m k : Message} → sends m ≡ sends k → m ≡ k
             message-same e = cc
 
-    goes : Inv s clocks L p told reg g top′ (afterRecorder st g next)
+    goes : Inv s clocks L p marks g top′ (afterRecorder st g next)
     goes =
         let good = step-good s rec r event (part .good) in
         ⊎-elim (quiet good) (λ a. asking good (a .1)) (leaves s rec r event (part .good .size) on)
 
   pub recorder-kept : (event : Event) → delivered (st .history) (atRecorder g r event) ≡ true
-      → Inv s clocks L p told reg g top′ (afterRecorder st g (stepOf s rec r event))
+      → Inv s clocks L p marks g top′ (afterRecorder st g (stepOf s rec r event))
   recorder-kept event arrived =
-      each-way s rec r event (λ out. stepOf s rec r event ≡ out → Inv s clocks L p told reg g top′ (afterRecorder st g (stepOf s rec r event)))
+      each-way s rec r event (λ out. stepOf s rec r event ≡ out → Inv s clocks L p marks g top′ (afterRecorder st g (stepOf s rec r event)))
       (record {
         refused = λ _ same. unchanged (stepOf s rec r event) (ap (λ (o : Outcome Recorder). o .rec) same) (λ m q. no-refused-message (sym (ap (λ (o : Outcome Recorder). o .answer) same) ∙ q));
         stopped = λ _ _ same. unchanged (stepOf s rec r event) (ap (λ (o : Outcome Recorder). o .rec) same) (λ m q. no-message (sym (ap (λ (o : Outcome Recorder). o .answer) same) ∙ q));

@@ -38,7 +38,7 @@ use Rattle.rack.proofs.Clocks.{Reads, lower}
 use Rattle.rack.proofs.History.{All, sent-has, posted-all}
 use Rattle.rack.proofs.Ghost.{By, Ghost, Extends, stays, AckFact, Behind, Doomed, ack-on, history-on, doomed-on}
 use Rattle.rack.proofs.Steps.{StandbyStep, standby-step, no-message, no-refused-message}
-use Rattle.rack.proofs.Invariant.{StandbyPart, Inv, observer-on, standby-on, recorder-on}
+use Rattle.rack.proofs.Invariant.{Acked, StandbyPart, Marks, Inv, observer-on, standby-on, recorder-on}
 
 -- the state after the standby's step
 abbrev pub afterStandby : State → (g : ℕ) → Outcome Standby → State
@@ -79,8 +79,15 @@ place-of (place ∷ places) zero cnt status (suc y) = inr refl
 place-of (place ∷ places) (suc x) cnt status zero = inr refl
 place-of (place ∷ places) (suc x) cnt status (suc y) = ⊎-elim (λ a. inl (ap suc (a .0), a .1)) inr (place-of places x cnt status y)
 
+-- the marks after an event may say what it shows: that the standby is told dead, or the round that its ack counts in
+pub record ShowsFrom (marks : Marks) (q : Standby) (event : Event) (answer : Said Spoken) (marks′ : Marks) : Type 0 where
+  pub dead : marks′ .told ≡ true → (marks .told ≡ true) ⊎ ((m : ℕ) × (answer ≡ saysOf "dead" m))
+  pub registered : marks′ .reg ≡ marks .reg
+  pub round : ((marks′ .ts ≡ marks .ts) × (marks′ .places ≡ marks .places))
+      ⊎ ((x : ℕ) × (cnt : ℕ) × (status : Status) × (event ≡ ack x (q .ts) cnt status) × (marks′ .ts ≡ q .ts) × (marks′ .places ≡ keeping x cnt status (q .places)))
+
 module _ (s : Settings) (ok : refusalOf s ≡ 0) (w : ℕ) (window-fits : w ≤ window s) (clocks : Clocks) (L : ℕ) (p : Bool)
-    {told reg : Bool} {now : ℕ} {top : ℕ → ℕ} {st : State} (inv : Inv s clocks L p told reg now top st)
+    {marks : Marks} {now : ℕ} {top : ℕ → ℕ} {st : State} (inv : Inv s clocks L p marks now top st)
     (g r : ℕ) (top′ : ℕ → ℕ) (later : now ≤ g) (up : (k : ℕ) → top k ≤ top′ k)
     (read : Reads s (clocks .standby) g r) (seen : r ≤ top′ (partyKey standby))
     (event : Event) (arrived : delivered (st .history) (atStandby g r event) ≡ true) where
@@ -212,9 +219,8 @@ module _ (s : Settings) (ok : refusalOf s ≡ 0) (w : ℕ) (window-fits : w ≤ 
             omega (arith, above, less, v .1);
       }
 
-  pub standby-kept : (told′ : Bool) → (told′ ≡ true → (told ≡ true) ⊎ ((m : ℕ) × (out .answer ≡ saysOf "dead" m)))
-      → Inv s clocks L p told′ reg g top′ (afterStandby st g out)
-  standby-kept told′ why =
+  pub standby-kept : (marks′ : Marks) → ShowsFrom marks q event (out .answer) marks′ → Inv s clocks L p marks′ g top′ (afterStandby st g out)
+  standby-kept marks′ shows =
       record {
         gh = gh;
         recorder-part = recorder-on s clocks L p ext refl refl refl (inv .recorder-part);
@@ -224,6 +230,13 @@ module _ (s : Settings) (ok : refusalOf s ≡ 0) (w : ℕ) (window-fits : w ≤ 
             posted-all (λ m. Behind s clocks L p gh counter g (m .by) (m .what) (m .time)) standby g (out .answer) (st .history)
             (history-on s clocks L p ext (inv .history-part)) news;
         early = inv .early;
-        doom = λ t. ⊎-elim (λ before. let d = inv .doom before in (d .0, doomed-on s clocks L p ext (d .1))) (λ n. (n .0, doomed (n .0) (n .1))) (why t);
-        registered-early = inv .registered-early;
+        doom = λ t. ⊎-elim (λ before. let d = inv .doom before in (d .0, doomed-on s clocks L p ext (d .1))) (λ n. (n .0, doomed (n .0) (n .1))) (shows .dead t);
+        registered-early = λ t. inv .registered-early (sym (shows .registered) ∙ t);
+        noted = note (shows .round);
       }
+    where
+      note : ((marks′ .ts ≡ marks .ts) × (marks′ .places ≡ marks .places))
+          ⊎ ((x : ℕ) × (cnt : ℕ) × (status : Status) × (event ≡ ack x (q .ts) cnt status) × (marks′ .ts ≡ q .ts) × (marks′ .places ≡ keeping x cnt status (q .places)))
+          → Acked s clocks L p gh counter g (marks′ .ts) (marks′ .places)
+      note (inl a) = rw (a .0, a .1) (λ x k. ack-on s clocks L p ext (inv .noted x k))
+      note (inr a) = rw (a .4, a .5) (kept-with (a .0) (a .1) (a .2) (a .3))

@@ -9,7 +9,7 @@ use mathlib.Core.Bool.{Bool, true}
 use mathlib.Core.List.{List, [], _∷_}
 use mathlib.Core.Logic.{_⊎_, inl, inr, ⊎-elim}
 use Rattle.settings.specs.declared.Settings.{Settings}
-use Rattle.settings.specs.Settings.{P, O, rounding}
+use Rattle.settings.specs.Settings.{n, P, O, rounding}
 use Rattle.settings.specs.Quorums.{survives, closes, _∋_}
 use Rattle.messages.specs.declared.Status.{Status}
 use Rattle.messages.specs.declared.Status.the-variants.{Alive, Dead}
@@ -58,6 +58,7 @@ module _ (s : Settings) (clocks : Clocks) (L : ℕ) (p : Bool) where
   -- above its counter; where it says Dead, the observers' lease had run since the request was sent; where it says Alive and
   -- requests arrive by time L only, it is not long after L
   pub record AckFact (gh : Ghost) (counter now x ts cnt : ℕ) (status : Status) : Type 0 where
+    pub is-observer : x < n s
     pub said-at : ℕ
     pub begun-at : ℕ
     pub begun : Reads s (clocks .standby) begun-at ts
@@ -116,6 +117,7 @@ module _ (s : Settings) (clocks : Clocks) (L : ℕ) (p : Bool) where
     pub ack-on : {x ts cnt : ℕ} {status : Status} → AckFact old counter now x ts cnt status → AckFact new counter′ now′ x ts cnt status
     ack-on {x} {ts} {cnt} a =
         record {
+          is-observer = a .is-observer;
           said-at = a .said-at;
           begun-at = a .begun-at;
           begun = a .begun;

@@ -1,5 +1,5 @@
 -- The invariant of runs, in parts: recorder, observers, standby and history, each in the terms of proofs/Ghost.antt.
--- `told` says that the standby has been told dead, `reg` that the recorder had registered. Assumes nothing.
+-- Assumes nothing.
 use Prim.Native.Nat.{ℕ, zero, suc, _+_, _-_, _≤_, _<_}
 use native.Mathlib.Omega.{arith}
 use native.Mathlib.Nat.{le-trans, le-refl}
@@ -18,6 +18,7 @@ use Rattle.recorder.proofs.Keeping.{Good}
 use Rattle.recorder.proofs.Steps.{IsOpen, sentAt}
 use Rattle.observer.specs.declared.Observer.{Observer}
 use Rattle.observer.specs.Observer.{hasForm as observerHasForm}
+use Rattle.standby.specs.declared.Place.{Place}
 use Rattle.standby.specs.declared.Standby.{Standby}
 use Rattle.standby.specs.Standby.{hasForm as standbyHasForm, lastReading as lastOfStandby, unused}
 use Rattle.standby.specs.Claims.{Kept}
@@ -27,6 +28,14 @@ use Rattle.rack.specs.Runs.Party.{recorder, standby, observer}
 use Rattle.rack.proofs.Clocks.{Reads}
 use Rattle.rack.proofs.History.{All}
 use Rattle.rack.proofs.Ghost.{By, Ghost, Extends, AckFact, Behind, StoreFact, EndedFact, Doomed, ack-on, history-on, store-on, ended-on, doomed-on}
+
+-- What the run has come to: the standby was told dead; the recorder had registered; and a round of this ts in which these
+-- places were kept, for a claim to come back to.
+pub record Marks : Type 0 where
+  pub told : Bool
+  pub reg : Bool
+  pub ts : ℕ
+  pub places : List Place
 
 module _ (s : Settings) (clocks : Clocks) (L : ℕ) (p : Bool) where
   pub record RecorderPart (gh : Ghost) (now : ℕ) (rec : Recorder) : Type 0 where
@@ -52,27 +61,32 @@ module _ (s : Settings) (clocks : Clocks) (L : ℕ) (p : Bool) where
     pub set-early : p ≡ true
         → (o .deadline ≡ 0) ⊎ ((u : ℕ) × (ρ : ℕ) × (u ≤ L) × (u ≤ now) × Reads s (clocks .observer x) u ρ × (o .deadline ≡ ρ + O s))
 
+  -- an ack stands behind each place that is kept
+  abbrev pub Acked : Ghost → (counter now ts : ℕ) → List Place → Type 0
+  Acked gh counter now ts places =
+      (x : ℕ) → Kept places x → AckFact s clocks L p gh counter now x ts (getD places x unused .counter) (getD places x unused .status)
+
   pub record StandbyPart (gh : Ghost) (counter now top : ℕ) (q : Standby) : Type 0 where
     pub form : standbyHasForm s q ≡ true
     pub sized : length (q .places) ≡ 16
     pub read : lastOfStandby q ≤ top
-    pub kept : (x : ℕ) → Kept (q .places) x
-        → AckFact s clocks L p gh counter now x (q .ts) (getD (q .places) x unused .counter) (getD (q .places) x unused .status)
+    pub kept : Acked gh counter now (q .ts) (q .places)
 
   -- what every message of the history has behind it
   abbrev pub HistoryPart : Ghost → (counter now : ℕ) → List Sent → Type 0
   HistoryPart gh counter now history = All (λ m. Behind s clocks L p gh counter now (m .by) (m .what) (m .time)) history
 
-  pub record Inv (told reg : Bool) (now : ℕ) (top : ℕ → ℕ) (st : State) : Type 0 where
+  pub record Inv (marks : Marks) (now : ℕ) (top : ℕ → ℕ) (st : State) : Type 0 where
     pub gh : Ghost
     pub recorder-part : RecorderPart gh now (st .recorder)
     pub observer-part : (x : ℕ) → ObserverPart gh (st .recorder .counter) now (top (partyKey (observer x))) x (st .observers x)
     pub standby-part : StandbyPart gh (st .recorder .counter) now (top (partyKey standby)) (st .standby)
     pub history-part : HistoryPart gh (st .recorder .counter) now (st .history)
     pub early : p ≡ true → (y j v : ℕ) → By (gh .reached) y j v → By (gh .reached) y j L
-    pub doom : told ≡ true → (c : ℕ) × Doomed s clocks L p gh (st .recorder .counter) now c
-    pub registered-early : reg ≡ true → p ≡ true
+    pub doom : marks .told ≡ true → (c : ℕ) × Doomed s clocks L p gh (st .recorder .counter) now c
+    pub registered-early : marks .reg ≡ true → p ≡ true
         → (set : List Bool) × (survives s set ≡ true) × ((y : ℕ) → set ∋ y → By (gh .reached) y 1 L)
+    pub noted : Acked gh (st .recorder .counter) now (marks .ts) (marks .places)
 
   -- ---- what stays when other parts of the state change
 

@@ -23,6 +23,7 @@ use Rattle.recorder.specs.Recorder.Event.{tick, grant, drive}
 use Rattle.recorder.specs.Claims.{Sized}
 use Rattle.recorder.proofs.Steps.{Going, IsOpen, running-after, reading-after, sent-young}
 use Rattle.recorder.proofs.Ways.{Ways, each-way}
+use Rattle.standby.specs.Standby.{noPlaces}
 use Rattle.standby.proofs.Verdicts.{says-other}
 use Rattle.rack.specs.Clocks.{Clocks, reads}
 use Rattle.rack.specs.Runs.{oursWithin, Event, State, time, onClock, perform, stateAfter, answerTo, isRun}
@@ -30,73 +31,76 @@ use Rattle.rack.specs.Runs.Event.{atRecorder}
 use Rattle.rack.specs.Claims.{StoppedOrRefused, Safe, DeadMeansDead}
 use Rattle.rack.proofs.Clocks.{Reads, is-reading, lower}
 use Rattle.rack.proofs.Ghost.{By, Doomed}
-use Rattle.rack.proofs.Invariant.{RecorderPart, Inv}
-use Rattle.rack.proofs.Along.{nowOf, topOf, Adds, adds, Early, Holds, at-first, keeps}
+use Rattle.rack.proofs.Invariant.{RecorderPart, Marks, Inv}
+use Rattle.rack.proofs.Along.{nowOf, topOf, Adds, adds, Early, nothing, Holds, at-first, keeps, tells}
 
 -- A recorder whose request is doomed has stopped by the time it makes a step: had it gone on, the lease of that request would
 -- have ended with grants of a survival quorum, stored before the lease was long over; but a query quorum had stored nothing
 -- higher when it was.
-pub doomed-stops : (s : Settings) → refusalOf s ≡ 0 → (clocks : Clocks) (L : ℕ) (p reg : Bool) (now : ℕ) (top : ℕ → ℕ) (st : State)
-    → Inv s clocks L p true reg now top st → Reads s (clocks .recorder) now (lastReading (st .recorder)) → st .recorder .stopped ≡ 0 → ⊥
-doomed-stops s ok clocks L p reg now top st inv read running =
+pub doomed-stops : (s : Settings) → refusalOf s ≡ 0 → (clocks : Clocks) (L : ℕ) (p : Bool) (marks : Marks) (now : ℕ) (top : ℕ → ℕ) (st : State)
+    → Inv s clocks L p marks now top st → marks .told ≡ true → Reads s (clocks .recorder) now (lastReading (st .recorder)) → st .recorder .stopped ≡ 0 → ⊥
+doomed-stops s ok clocks L p marks now top st inv told read running =
     let rec = st .recorder in
     let part = inv .recorder-part in
-    let c = inv .doom refl .0 in
-    let d = inv .doom refl .1 in
+    let c = inv .doom told .0 in
+    let d = inv .doom told .1 in
     let sent = part .sent c (d .sent) (d .known) in
     let gain = lower (sent .0) read (le-trans (sent .1) (part .h-past)) in
     by (c <? oldest rec) refl (omega (arith, d .over, accepted s ok .b))
   where
-    by : (b : Bool) → (inv .doom refl .0 <? oldest (st .recorder)) ≡ b → inv .gh .σ (inv .doom refl .0) + P s ≤ lastReading (st .recorder) → ⊥
+    by : (b : Bool) → (inv .doom told .0 <? oldest (st .recorder)) ≡ b → inv .gh .σ (inv .doom told .0) + P s ≤ lastReading (st .recorder) → ⊥
     by true e old =
-        let c = inv .doom refl .0 in
-        let d = inv .doom refl .1 in
+        let c = inv .doom told .0 in
+        let d = inv .doom told .1 in
         let f = inv .recorder-part .ended running c (d .sent) (ltb-true c (oldest (st .recorder)) e) in
         let y = quorums-meet s ok (f .0) (d .set) (f .1) (d .query) in
         let stored = f .2 (y .0) (y .2) in
         let low = d .low (y .0) (y .3) (c + 1) (stored .0) (stored .2) (stored .1) in
         omega arith
     by false e old =
-        let c = inv .doom refl .0 in
-        let d = inv .doom refl .1 in
+        let c = inv .doom told .0 in
+        let d = inv .doom told .1 in
         let part = inv .recorder-part in
         let is-open : IsOpen (st .recorder) c = (ltb-false c (oldest (st .recorder)) e, d .known) in
         let young = sent-young s (st .recorder) (part .good .form) (part .good .size) running c is-open in
         let less : lastReading (st .recorder) - inv .gh .σ c < P s = rw (part .opened c is-open) at young in
         omega arith
 
+abbrev dead-told : Marks
+dead-told = record { told = true; reg = false; ts = 0; places = noPlaces }
+
 module _ (s : Settings) (ok : refusalOf s ≡ 0) (w : Settings → ℕ) (window-fits : w s ≤ window s) (clocks : Clocks) where
   -- nothing is asked of when requests arrive
-  abbrev Held : (told : Bool) → List Event → Type 0
-  Held told events = Holds s ok w window-fits clocks 0 false told false events
+  abbrev Held : Marks → List Event → Type 0
+  Held marks events = Holds s ok w window-fits clocks 0 false marks events
 
   free : (e : Event) → false ≡ true → Early 0 e
   free e z = absurd (not-both z refl)
 
-  from-start : (events : List Event) → isRun (oursWithin w) s clocks events ≡ true → Held false events
+  pub from-start : (events : List Event) → isRun (oursWithin w) s clocks events ≡ true → Held nothing events
   from-start [] h = at-first s ok w window-fits clocks 0 false
   from-start (e ∷ past) h =
       let a = adds (oursWithin w) s clocks past e h in
-      keeps s ok w window-fits clocks 0 false false false past (from-start past (a .before)) e a (free e) false (λ t. inl t)
+      keeps s ok w window-fits clocks 0 false nothing past (from-start past (a .before)) e a (free e)
 
-  -- once told, it stays told
-  stays-told : (later past : List Event) → isRun (oursWithin w) s clocks (later ++ past) ≡ true → Held true past → Held true (later ++ past)
-  stays-told [] past h i = i
-  stays-told (e ∷ later) past h i =
+  -- what a run has come to, it keeps
+  stays : (marks : Marks) (later past : List Event) → isRun (oursWithin w) s clocks (later ++ past) ≡ true → Held marks past → Held marks (later ++ past)
+  stays marks [] past h i = i
+  stays marks (e ∷ later) past h i =
       let a = adds (oursWithin w) s clocks (later ++ past) e h in
-      keeps s ok w window-fits clocks 0 false true false (later ++ past) (stays-told later past (a .before) i) e a (free e) true (λ t. inl t)
+      keeps s ok w window-fits clocks 0 false marks (later ++ past) (stays marks later past (a .before) i) e a (free e)
 
   before-of : (later past : List Event) → isRun (oursWithin w) s clocks (later ++ past) ≡ true → isRun (oursWithin w) s clocks past ≡ true
   before-of [] past h = h
   before-of (e ∷ later) past h = before-of later past (adds (oursWithin w) s clocks (later ++ past) e h .before)
 
-  goes : (past : List Event) (g r : ℕ) (e : RecorderEvent) → Held true (atRecorder g r e ∷ past) → Sized (stateAfter (oursWithin w) s past .recorder)
+  goes : (past : List Event) (g r : ℕ) (e : RecorderEvent) → Held dead-told (atRecorder g r e ∷ past) → Sized (stateAfter (oursWithin w) s past .recorder)
       → onClock s clocks (atRecorder g r e) ≡ true → Going s (stateAfter (oursWithin w) s past .recorder) r e → ⊥
   unfolding nowOf time stateAfter perform onClock
   goes past g r e after sized clock on =
       let rec = stateAfter (oursWithin w) s past .recorder in
       let read = is-reading s (clocks .recorder) g r (both-hold (reads s (clocks .recorder) g r) (r ≤? topReading) clock .0) in
-      doomed-stops s ok clocks 0 false false g (topOf (atRecorder g r e ∷ past)) (stateAfter (oursWithin w) s (atRecorder g r e ∷ past)) after
+      doomed-stops s ok clocks 0 false dead-told g (topOf (atRecorder g r e ∷ past)) (stateAfter (oursWithin w) s (atRecorder g r e ∷ past)) after refl
       (rw (reading-after s rec r e sized on) read) (running-after s rec r e sized on)
 
   pub stops : (earlier between : List Event) (told : Event) (m g r : ℕ) (e : RecorderEvent)
@@ -108,9 +112,9 @@ module _ (s : Settings) (ok : refusalOf s ≡ 0) (w : Settings → ℕ) (window-
       let past = between ++ (told ∷ earlier) in
       let a = adds (oursWithin w) s clocks past (atRecorder g r e) run in
       let b = adds (oursWithin w) s clocks earlier told (before-of between (told ∷ earlier) (a .before)) in
-      let known = keeps s ok w window-fits clocks 0 false false false earlier (from-start earlier (b .before)) told b (free told) true (λ t. inr (m, dead)) in
-      let before = stays-told between (told ∷ earlier) (a .before) known in
-      let after = keeps s ok w window-fits clocks 0 false true false past before (atRecorder g r e) a (free (atRecorder g r e)) true (λ t. inl t) in
+      let known = tells s ok w window-fits clocks 0 false nothing earlier (from-start earlier (b .before)) told b m dead in
+      let before = stays dead-told between (told ∷ earlier) (a .before) known in
+      let after = keeps s ok w window-fits clocks 0 false dead-told past before (atRecorder g r e) a (free (atRecorder g r e)) in
       each-way s (stateAfter (oursWithin w) s past .recorder) r e
       (λ out. recorderStep s (stateAfter (oursWithin w) s past .recorder) r e ≡ out → StoppedOrRefused (out .answer))
       (record {

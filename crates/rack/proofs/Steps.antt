@@ -51,16 +51,16 @@ Stores s o r e o′ =
     ((o′ .latest ≡ o .latest) × (o′ .deadline ≡ o .deadline))
     ⊎ ((c : ℕ) × Arrives e c × (o .latest < c) × (o′ .deadline ≡ r + O s) × ((o′ .latest ≡ o .latest) ⊎ (o′ .latest ≡ c)))
 
-pub record ObserverStep (s : Settings) (o : Observer) (r : ℕ) (e : ObserverEvent) (out : Outcome Observer) : Type 0 where
+pub record ObserverStep (s : Settings) (o : Observer) (x r : ℕ) (e : ObserverEvent) (out : Outcome Observer) : Type 0 where
   pub stores : Stores s o r e (out .rec)
   pub grants : (c : ℕ) → out .answer ≡ sends (LeaseGrant c) → (o .latest < c) × (out .rec .latest ≡ c)
   pub acks : (ts cnt : ℕ) (status : Status) → out .answer ≡ sends (CheckAck ts cnt status)
-      → (e ≡ check ts) × (cnt ≡ o .latest) × (status ≡ observer.statusAt o r)
+      → (e ≡ check ts) × (cnt ≡ o .latest) × (status ≡ observer.statusAt o r) × (x < n s)
 
 module _ (s : Settings) (o : Observer) (x r : ℕ) where
   -- the record as it came, with an answer that is no message
   idle : (e : ObserverEvent) (answer : Said Spoken) (l : ℕ) → ((m : Message) → answer ≡ sends m → ⊥)
-      → ObserverStep s o r e (answer leaving observer.atReading l o)
+      → ObserverStep s o x r e (answer leaving observer.atReading l o)
   idle e answer l mute =
       record {
         stores = inl (refl, refl);
@@ -68,16 +68,16 @@ module _ (s : Settings) (o : Observer) (x r : ℕ) where
         acks = λ ts cnt status q. absurd (mute _ q);
       }
 
-  refused : (e : ObserverEvent) (k : ℕ) → ObserverStep s o r e (refuses k leaving o)
+  refused : (e : ObserverEvent) (k : ℕ) → ObserverStep s o x r e (refuses k leaving o)
   refused e k = idle e (refuses k) (observer.lastReading o) (λ m q. no-refused-message q)
 
-  requested : (c : ℕ) → ObserverStep s o r (request c) (observer.requestOf s o x r c)
+  requested : (c : ℕ) → ObserverStep s o x r (request c) (observer.requestOf s o x r c)
   unfolding observer.requestOf observer.stores observer.storeAll observer.store
   requested c =
-      either-way (observer.requestRefusals s o x r c) o _ (λ out. ObserverStep s o r (request c) out) (λ _. refused (request c) _) (λ ok. of (o .latest <? c) refl)
+      either-way (observer.requestRefusals s o x r c) o _ (λ out. ObserverStep s o x r (request c) out) (λ _. refused (request c) _) (λ ok. of (o .latest <? c) refl)
     where
       of : (b : Bool) → (o .latest <? c) ≡ b
-          → ObserverStep s o r (request c) ((if b then sends (LeaseGrant c) else says "silent") leaving observer.atReading r (observer.storeAll (if b then observer.deadline (r + O s) ∷ observer.latest c ∷ [] else []) o))
+          → ObserverStep s o x r (request c) ((if b then sends (LeaseGrant c) else says "silent") leaving observer.atReading r (observer.storeAll (if b then observer.deadline (r + O s) ∷ observer.latest c ∷ [] else []) o))
       of true h =
           record {
             stores = inr (c, inl refl, ltb-true _ _ h, refl, inr refl);
@@ -87,12 +87,12 @@ module _ (s : Settings) (o : Observer) (x r : ℕ) where
       of false h = idle (request c) (says "silent") r (λ m q. no-message q)
 
   -- a cut leaves the first k stores done and answers no message
-  cutted : (c k : ℕ) → ObserverStep s o r (cut c k) (observer.cutOf s o x r c k)
+  cutted : (c k : ℕ) → ObserverStep s o x r (cut c k) (observer.cutOf s o x r c k)
   unfolding observer.cutOf observer.stores observer.storeAll observer.store
   cutted c k =
-      either-way (observer.cutRefusals s o x r c k) o _ (λ out. ObserverStep s o r (cut c k) out) (λ _. refused (cut c k) _) (λ ok. of (o .latest <? c) refl k (inr (k, refl)))
+      either-way (observer.cutRefusals s o x r c k) o _ (λ out. ObserverStep s o x r (cut c k) out) (λ _. refused (cut c k) _) (λ ok. of (o .latest <? c) refl k (inr (k, refl)))
     where
-      mute : {o′ : Observer} → Stores s o r (cut c k) o′ → ObserverStep s o r (cut c k) (says "cut" leaving o′)
+      mute : {o′ : Observer} → Stores s o r (cut c k) o′ → ObserverStep s o x r (cut c k) (says "cut" leaving o′)
       mute d =
           record {
             stores = d;
@@ -101,21 +101,21 @@ module _ (s : Settings) (o : Observer) (x r : ℕ) where
           }
 
       of : (b : Bool) → (o .latest <? c) ≡ b → (j : ℕ) → Arrives (cut c k) c
-          → ObserverStep s o r (cut c k) (says "cut" leaving observer.atReading 0 (observer.storeAll (take j (if b then observer.deadline (r + O s) ∷ observer.latest c ∷ [] else [])) o))
+          → ObserverStep s o x r (cut c k) (says "cut" leaving observer.atReading 0 (observer.storeAll (take j (if b then observer.deadline (r + O s) ∷ observer.latest c ∷ [] else [])) o))
       of true h zero a = mute (inl (refl, refl))
       of true h (suc zero) a = mute (inr (c, a, ltb-true _ _ h, refl, inl refl))
       of true h (suc (suc j)) a = many j
         where
-          many : (j : ℕ) → ObserverStep s o r (cut c k) (says "cut" leaving observer.atReading 0 (observer.storeAll (observer.deadline (r + O s) ∷ observer.latest c ∷ take j []) o))
+          many : (j : ℕ) → ObserverStep s o x r (cut c k) (says "cut" leaving observer.atReading 0 (observer.storeAll (observer.deadline (r + O s) ∷ observer.latest c ∷ take j []) o))
           many zero = mute (inr (c, a, ltb-true _ _ h, refl, inr refl))
           many (suc j) = mute (inr (c, a, ltb-true _ _ h, refl, inr refl))
       of false h zero a = mute (inl (refl, refl))
       of false h (suc j) a = mute (inl (refl, refl))
 
-  checked : (ts : ℕ) → ObserverStep s o r (check ts) (observer.checkOf s o x r ts)
-  unfolding observer.checkOf
+  checked : (ts : ℕ) → ObserverStep s o x r (check ts) (observer.checkOf s o x r ts)
+  unfolding observer.checkOf every
   checked ts =
-      either-way (observer.checkRefusals s o x r ts) o _ (λ out. ObserverStep s o r (check ts) out) (λ _. refused (check ts) _)
+      either-way (observer.checkRefusals s o x r ts) o _ (λ out. ObserverStep s o x r (check ts) out) (λ _. refused (check ts) _)
       (λ ok.
       record {
         stores = inl (refl, refl);
@@ -124,10 +124,10 @@ module _ (s : Settings) (o : Observer) (x r : ℕ) where
             let a : ts ≡ ts′ = cc in
             let b : o .latest ≡ cnt = cc in
             let c : observer.statusAt o r ≡ status = cc in
-            (ap check a, sym b, sym c);
+            (ap check a, sym b, sym c, leb-false (n s) x (none-applies (observer.checkRefusals s o x r ts) ok refl 4));
       })
 
-  pub observer-step : (e : ObserverEvent) → ObserverStep s o r e (observer.stepOf s o x r e)
+  pub observer-step : (e : ObserverEvent) → ObserverStep s o x r e (observer.stepOf s o x r e)
   unfolding observer.stepOf
   observer-step (request c) = requested c
   observer-step (cut c k) = cutted c k
