@@ -234,7 +234,7 @@ module _ (s : Settings) (ok : refusalOf s ≡ 0) (w : Settings → ℕ) (window-
       }
 
   module _ (marks : Marks) (past : List Event) (inv : Holds marks past) where
-    reading-of : (e : Event) (now : Reading) → readingsAt e ≡ now ∷ [] → rising past e ≡ true → topOf past (now .who) ≤ now .r
+    pub reading-of : (e : Event) (now : Reading) → readingsAt e ≡ now ∷ [] → rising past e ≡ true → topOf past (now .who) ≤ now .r
     unfolding rising every
     reading-of e now only h =
         let q : (every (λ before. every (λ old. not (old .who =? now .who) || (old .r ≤? now .r)) (readingsAt before)) past && true) ≡ true = rw only at h in

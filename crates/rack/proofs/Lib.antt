@@ -8,3 +8,4 @@ pub mod AtObserver
 pub mod AtStandby
 pub mod Along
 pub mod Safety
+pub mod Rounds
