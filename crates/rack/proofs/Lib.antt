@@ -9,3 +9,4 @@ pub mod AtStandby
 pub mod Along
 pub mod Safety
 pub mod Rounds
+pub mod Detection
