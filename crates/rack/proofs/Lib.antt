@@ -10,3 +10,4 @@ pub mod Along
 pub mod Safety
 pub mod Rounds
 pub mod Detection
+pub mod Exchange

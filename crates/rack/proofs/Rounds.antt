@@ -148,7 +148,7 @@ ended-by w s past (crash x g) ended = absurd (not-ended (refuses 0) refl ended)
 
 -- ---- a begin is never refused in a run
 
-passes-on : (rs more : List Refusal) → every (λ r. 0 <? r .no) rs ≡ true → first rs ≡ 0 → first more ≡ 0 → first (rs ++ more) ≡ 0
+pub passes-on : (rs more : List Refusal) → every (λ r. 0 <? r .no) rs ≡ true → first rs ≡ 0 → first more ≡ 0 → first (rs ++ more) ≡ 0
 unfolding first every
 passes-on [] more numbered e f = f
 passes-on (r ∷ rs) more numbered e f =
