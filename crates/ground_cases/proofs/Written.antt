@@ -7,7 +7,6 @@ use mathlib.Core.List.{List}
 use lib.ListN.{length}
 use borrow.Author.Tests.{ltb-false}
 use Rattle.words.specs.Tests.{if_then_else_, _<?_}
-use Rattle.words.specs.Said.{Said}
 use Rattle.words.specs.Said.Said.{refusal, gives}
 use Rattle.messages.specs.declared.Message.{Message}
 use Rattle.messages.specs.Messages.{hasForm}

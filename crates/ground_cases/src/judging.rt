@@ -74,13 +74,16 @@ fn slack_signs() {
     case(b"eta 1, P 65", of(3, 2, 1, 1, 65, 66, 1));
 }
 
-// n and t. 1 is given for t = 0 though slack a is negative too.
-fn counts() {
+// t. 1 is given for t = 0 though slack a is negative too.
+fn survival_counts() {
     case(b"t 0", of(3, 0, 100, 40, 159, 235, 10));
     case(b"t 0, P 158", of(3, 0, 100, 40, 158, 235, 10));
     case(b"t 1", of(3, 1, 100, 40, 159, 235, 10));
     case(b"t = n", of(3, 3, 100, 40, 159, 235, 10));
     case(b"t = n + 1", of(3, 4, 100, 40, 159, 235, 10));
+}
+
+fn observer_counts() {
     case(b"n 0", of(0, 1, 100, 40, 159, 235, 10));
     case(b"n 1, t 1", of(1, 1, 100, 40, 159, 235, 10));
     case(b"n 16", of(16, 2, 100, 40, 159, 235, 10));
@@ -138,7 +141,8 @@ fn grains_and_ends() {
 
 pub fn cases() {
     slack_signs();
-    counts();
+    survival_counts();
+    observer_counts();
     bounds();
     leases();
     grains_and_ends();

@@ -41,15 +41,18 @@ fn requests_and_grants() {
     case(b"LEASE-GRANT 2^40 + 1", b"LEASE-GRANT\t1099511627777\n");
 }
 
-// Numbers past 2^64 would come out small again if a product or a sum wrapped: 2^64 + 7 and the 21 digits, ten times 2^64
-// and 7, as 7.
-fn checks() {
+fn small_checks() {
     case(b"CHECK 0", b"CHECK\t0\n");
     case(b"CHECK 00", b"CHECK\t00\n");
     case(b"CHECK 7", b"CHECK\t7\n");
     case(b"CHECK 07", b"CHECK\t07\n");
     case(b"CHECK 9", b"CHECK\t9\n");
     case(b"CHECK 10", b"CHECK\t10\n");
+}
+
+// Numbers past 2^64 would come out small again if a product or a sum wrapped: 2^64 + 7 and the 21 digits, ten times 2^64
+// and 7, as 7.
+fn large_checks() {
     case(b"CHECK 2^40 - 1", b"CHECK\t1099511627775\n");
     case(b"CHECK 2^40", b"CHECK\t1099511627776\n");
     case(b"CHECK 2^64 - 1", b"CHECK\t18446744073709551615\n");
@@ -59,7 +62,7 @@ fn checks() {
     case(b"CHECK of 21 zeros", b"CHECK\t000000000000000000000\n");
 }
 
-fn acks() {
+fn acks_by_ts() {
     case(b"CHECK-ACK 0 0 Alive", b"CHECK-ACK\t0\t0\tAlive\n");
     case(b"CHECK-ACK 0 0 Dead", b"CHECK-ACK\t0\t0\tDead\n");
     case(
@@ -70,6 +73,9 @@ fn acks() {
         b"CHECK-ACK 2^40 0 Alive",
         b"CHECK-ACK\t1099511627776\t0\tAlive\n",
     );
+}
+
+fn acks_by_counter() {
     case(b"CHECK-ACK 7 1 Dead", b"CHECK-ACK\t7\t1\tDead\n");
     case(
         b"CHECK-ACK 7 2^40 Dead",
@@ -95,8 +101,8 @@ fn acks() {
     case(b"CHECK-ACK 7 01 Alive", b"CHECK-ACK\t7\t01\tAlive\n");
 }
 
-// Acks that miss the form in their status, their tabs or their end.
-fn bad_acks() {
+// Acks without one of their fields, and words that are no status.
+fn bad_statuses() {
     case(b"status missing", b"CHECK-ACK\t7\t1\t\n");
     case(b"status and its tab missing", b"CHECK-ACK\t7\t1\n");
     case(b"counter missing", b"CHECK-ACK\t7\tAlive\n");
@@ -104,6 +110,10 @@ fn bad_acks() {
     case(b"status Alivee", b"CHECK-ACK\t7\t1\tAlivee\n");
     case(b"status alive", b"CHECK-ACK\t7\t1\talive\n");
     case(b"status DEAD", b"CHECK-ACK\t7\t1\tDEAD\n");
+}
+
+// Acks with too much, or with other bytes than tabs and one line feed.
+fn bad_acks() {
     case(b"status Alive Dead", b"CHECK-ACK\t7\t1\tAlive\tDead\n");
     case(b"status and a blank", b"CHECK-ACK\t7\t1\tAlive \n");
     case(b"status and a tab", b"CHECK-ACK\t7\t1\tAlive\t\n");
@@ -118,7 +128,6 @@ fn bad_acks() {
     case(b"no line feed behind an ack", b"CHECK-ACK\t7\t1\tAlive");
 }
 
-// What stands at a line's end, and lines of next to nothing.
 fn bad_ends() {
     case(b"carriage return before line feed", b"CHECK\t7\r\n");
     case(b"carriage return alone", b"CHECK\t7\r");
@@ -126,6 +135,9 @@ fn bad_ends() {
     case(b"bytes behind the line feed", b"CHECK\t7\nx");
     case(b"two line feeds", b"CHECK\t7\n\n");
     case(b"two lines", b"CHECK\t7\nCHECK\t7\n");
+}
+
+fn next_to_nothing() {
     case(b"only a line feed", b"\n");
     case(b"no bytes", b"");
     case(b"only a tab", b"\t\n");
@@ -133,19 +145,25 @@ fn bad_ends() {
     case(b"number missing", b"CHECK\t\n");
 }
 
-// Tabs, words and digits of a line that would otherwise be read as CHECK 7. The bytes next to the digits are / and :.
-fn bad_fields() {
+fn bad_tabs() {
     case(b"tab missing", b"CHECK7\n");
     case(b"tab doubled", b"CHECK\t\t7\n");
     case(b"blank for the tab", b"CHECK 7\n");
     case(b"tab behind the number", b"CHECK\t7\t\n");
     case(b"blank behind the number", b"CHECK\t7 \n");
     case(b"a number too many", b"CHECK\t7\t7\n");
+}
+
+fn bad_words() {
     case(b"line in lower case", b"check\t7\n");
     case(b"word in part", b"CHEC\t7\n");
     case(b"word with a letter more", b"CHECKS\t7\n");
     case(b"blank in front", b" CHECK\t7\n");
     case(b"tab in front", b"\tCHECK\t7\n");
+}
+
+// The bytes next to the digits are / and :, next below 0 and above 9.
+fn bad_digits() {
     case(b"blank before the number", b"CHECK\t 7\n");
     case(b"sign +", b"CHECK\t+7\n");
     case(b"sign -", b"CHECK\t-7\n");
@@ -159,9 +177,15 @@ fn bad_fields() {
 
 pub fn cases() {
     requests_and_grants();
-    checks();
-    acks();
+    small_checks();
+    large_checks();
+    acks_by_ts();
+    acks_by_counter();
+    bad_statuses();
     bad_acks();
     bad_ends();
-    bad_fields();
+    next_to_nothing();
+    bad_tabs();
+    bad_words();
+    bad_digits();
 }

@@ -72,7 +72,7 @@ fn long_lines() {
 }
 
 // Each kind of line in room that fits it exactly and in one byte less.
-fn short_lines() {
+fn checks() {
     case(b"CHECK 0 in 48", Message::Check(0), 48);
     case(b"CHECK 0 in 8", Message::Check(0), 8);
     case(b"CHECK 0 in 7", Message::Check(0), 7);
@@ -81,6 +81,9 @@ fn short_lines() {
     case(b"CHECK 10 in 8", Message::Check(10), 8);
     case(b"CHECK 2^40 - 1 in 20", Message::Check(1099511627775), 20);
     case(b"CHECK 2^40 - 1 in 19", Message::Check(1099511627775), 19);
+}
+
+fn requests_and_grants() {
     case(b"LEASE-REQUEST 1 in 16", Message::LeaseRequest(1), 16);
     case(b"LEASE-REQUEST 1 in 15", Message::LeaseRequest(1), 15);
     case(
@@ -108,7 +111,7 @@ fn short_lines() {
 }
 
 // Messages not of the form. In room too short 9 and 10 both apply, and the lower is given.
-fn bad_messages() {
+fn bad_counters() {
     case(b"LEASE-REQUEST 0 in 48", Message::LeaseRequest(0), 48);
     case(b"LEASE-REQUEST 0 in 15", Message::LeaseRequest(0), 15);
     case(b"LEASE-REQUEST 0 in 0", Message::LeaseRequest(0), 0);
@@ -134,6 +137,9 @@ fn bad_messages() {
         Message::LeaseGrant(1099511627777),
         0,
     );
+}
+
+fn bad_checks_and_acks() {
     case(b"CHECK 2^40 in 48", Message::Check(1099511627776), 48);
     case(b"CHECK 2^40 in 0", Message::Check(1099511627776), 0);
     case(
@@ -151,6 +157,8 @@ fn bad_messages() {
 
 pub fn cases() {
     long_lines();
-    short_lines();
-    bad_messages();
+    checks();
+    requests_and_grants();
+    bad_counters();
+    bad_checks_and_acks();
 }
