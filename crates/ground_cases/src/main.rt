@@ -1,5 +1,5 @@
-// Cases on either side of the limits of document 01, "Settings" (refusals 1 and 2) and "Message lines" (9 and 10), executed
-// and compared with the file stdout, which was made by hand from document 01.
+// Cases on either side of the limits of document 01, "Settings" (refusals 1 and 2) and "Message lines" (9 and 10). The file
+// stdout has what document 01 asks of each.
 mod judging;
 mod reading;
 mod show;
