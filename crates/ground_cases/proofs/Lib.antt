@@ -1,0 +1,3 @@
+-- Laws that the program's proofs need.
+mod Written
+mod Distance
