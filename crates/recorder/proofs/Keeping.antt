@@ -251,7 +251,10 @@ step-good s rec r event good =
       refused = λ _. good;
       stopped = λ _ _. good;
       stopping = λ passes _ lacks.
-          record { form = halted-formed s rec r (allowed s rec r event passes) (good .size) lacks; size = record { sends = good .size .sends; grants = good .size .grants } };
+          record {
+            form = halted-formed s rec r (allowed s rec r event passes) (good .size) lacks;
+            size = record { sends = good .size .sends; grants = good .size .grants };
+          };
       going-on = λ passes running goes. event-good s rec r (allowed s rec r event passes) (good .size) running goes event passes;
     })
 
