@@ -12,33 +12,25 @@ use Rattle.words.specs.Lists.{every}
 use Rattle.words.specs.Said.{Said, Refusal, first}
 use Rattle.words.specs.Said.Said.{gives}
 use Rattle.words.proofs.Booleans.{both-hold, not-both}
+use Rattle.words.proofs.Conditions.{chosen}
 use Rattle.messages.specs.Answers.{Spoken, refuses}
 use Rattle.messages.specs.Answers.Spoken.{wordWith}
 use Rattle.messages.specs.Outcomes.{Outcome, _leaving_, unlessRefused}
 
 module _ {R : Type 0} (table : List Refusal) (rec : R) (step : Outcome R) where
-  -- nothing applies and the outcome is the step's, or a refusal does and the record is as it came
-  pub taken-apart : ((first table ≡ 0) × (unlessRefused table rec step ≡ step))
-      ⊎ ((first table ≡ 0 → ⊥) × (unlessRefused table rec step ≡ (refuses (first table) leaving rec)))
-  unfolding unlessRefused
-  taken-apart = by (first table =? 0) refl
-    where
-      by : (none : Bool) → (first table =? 0) ≡ none
-          → ((first table ≡ 0) × ((if none then step else refuses (first table) leaving rec) ≡ step))
-          ⊎ ((first table ≡ 0 → ⊥) × ((if none then step else refuses (first table) leaving rec) ≡ (refuses (first table) leaving rec)))
-      by true e = inl (eqb-true _ 0 e, refl)
-      by false e = inr (eqb-false _ 0 e, refl)
-
   -- what holds of the refusal and of the step holds of the outcome
   pub either-way : (Q : Outcome R → Type 0) → ((first table ≡ 0 → ⊥) → Q (refuses (first table) leaving rec)) → (first table ≡ 0 → Q step)
       → Q (unlessRefused table rec step)
-  either-way Q refused done = by taken-apart
-    where
-      by : ((first table ≡ 0) × (unlessRefused table rec step ≡ step))
-          ⊎ ((first table ≡ 0 → ⊥) × (unlessRefused table rec step ≡ (refuses (first table) leaving rec)))
-          → Q (unlessRefused table rec step)
-      by (inl w) = rw (w .1) (done (w .0))
-      by (inr w) = rw (w .1) (refused (w .0))
+  unfolding unlessRefused
+  either-way Q refused done = chosen Q (first table =? 0) (λ none. done (eqb-true _ 0 none)) (λ some. refused (eqb-false _ 0 some))
+
+  -- nothing applies and the outcome is the step's, or a refusal does and the record is as it came
+  pub taken-apart : ((first table ≡ 0) × (unlessRefused table rec step ≡ step))
+      ⊎ ((first table ≡ 0 → ⊥) × (unlessRefused table rec step ≡ (refuses (first table) leaving rec)))
+  taken-apart =
+      either-way
+      (λ outcome. ((first table ≡ 0) × (outcome ≡ step)) ⊎ ((first table ≡ 0 → ⊥) × (outcome ≡ (refuses (first table) leaving rec))))
+      (λ some. inr (some, refl)) (λ none. inl (none, refl))
 
   pub not-refused : first table ≡ 0 → unlessRefused table rec step ≡ step
   unfolding unlessRefused

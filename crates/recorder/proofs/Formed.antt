@@ -95,16 +95,20 @@ module _ (s : Settings) (rec : Recorder) where
         before-first = λ z. all-zero rec (second-holds (not (isZero (rec .counter))) (allZero rec) (is 2) (ap not (eq-eqb _ 0 z)));
         sends-unused = zero-from (openLeases rec) (rec .sends) (is 3);
         grants-unused = zero-from (n s) (rec .grants) (is 4);
-        grants-counter = λ x. leb-true _ _ (every-anywhere (λ grant. grant ≤? rec .counter) 0 (le-leb 0 (rec .counter) zero-le) (rec .grants) (is 5) x);
+        grants-counter = λ x.
+            leb-true _ _ (every-anywhere (λ grant. grant ≤? rec .counter) 0 (le-leb 0 (rec .counter) zero-le) (rec .grants) (is 5) x);
         some-lease = λ h. leb-true _ _ (second-holds (isZero (rec .counter)) (1 ≤? openLeases rec) (is 6) (not-zero _ h));
         leases-places = leb-true _ _ (is 7);
         leases-counter = leb-true _ _ (is 8);
         apart = is 9;
-        newest = λ h. eqb-true _ _ (second-holds (isZero (rec .counter)) (getD (rec .sends) (openLeases rec - 1) 0 =? lastSend rec) (is 10) (not-zero _ h));
+        newest = λ h.
+            eqb-true _ _ (second-holds (isZero (rec .counter)) (getD (rec .sends) (openLeases rec - 1) 0 =? lastSend rec) (is 10) (not-zero _ h));
         counter-send = leb-true _ _ (is 11);
         send-reading = leb-true _ _ (is 12);
         reading-top = leb-true _ _ (is 13);
-        youth = λ z i h. ltb-true _ _ (every-at (λ send. lastReading rec - send <? P s) 0 (leases rec) (second-holds (not (isZero (rec .stopped))) (young s rec) (is 14) (ap not (eq-eqb _ 0 z))) i h);
+        youth = λ z i h.
+            let all-young = second-holds (not (isZero (rec .stopped))) (young s rec) (is 14) (ap not (eq-eqb _ 0 z)) in
+            ltb-true _ _ (every-at (λ send. lastReading rec - send <? P s) 0 (leases rec) all-young i h);
       }
 
   pub has-form : Formed s rec → hasForm s rec ≡ true
@@ -124,5 +128,6 @@ module _ (s : Settings) (rec : Recorder) where
       (holds-both (le-leb _ _ (f .counter-send))
       (holds-both (le-leb _ _ (f .send-reading))
       (holds-both (le-leb _ _ (f .reading-top))
-      (holds-both (holds-either (not (isZero (rec .stopped))) (λ z. holds-every (λ send. lastReading rec - send <? P s) 0 (leases rec) (λ i h. lt-ltb _ _ (f .youth (eqb-true _ 0 (not-false _ z)) i h))))
+      (holds-both (holds-either (not (isZero (rec .stopped)))
+      (λ z. holds-every (λ send. lastReading rec - send <? P s) 0 (leases rec) (λ i h. lt-ltb _ _ (f .youth (eqb-true _ 0 (not-false _ z)) i h))))
       refl))))))))))))))

@@ -9,7 +9,8 @@ use mathlib.Core.List.{List}
 use lib.ListN.{length, getD, set, List·getD-map}
 use lib.Seq.{getD-set-same, getD-set-other, set-out}
 use borrow.Author.Tests.{ltb-true, ltb-false, eqb-true, eqb-false, lt-leb}
-use Rattle.words.specs.Tests.{if_then_else_, _<?_, _≤?_, _=?_}
+use Rattle.words.specs.Tests.{_<?_, _≤?_, _=?_}
+use Rattle.words.proofs.Conditions.{chosen}
 use Rattle.messages.specs.Outcomes.{Outcome}
 use Rattle.recorder.specs.declared.Recorder.{Recorder}
 use Rattle.recorder.specs.Recorder.{granted, higher, advanced, due, tickEvent, grantEvent, driveEvent, Event}
@@ -25,18 +26,11 @@ granted-at rec number x h =
 
 -- the greater number is none but one of the two, and below neither
 pub higher-least : (j k : ℕ) → (j ≤ higher j k) × (k ≤ higher j k)
-higher-least j k = by (j <? k) refl
-  where
-    by : (less : Bool) → (j <? k) ≡ less → (j ≤ (if less then k else j)) × (k ≤ (if less then k else j))
-    by true e = let h = ltb-true j k e in (omega arith, le-refl k)
-    by false e = (le-refl j, ltb-false j k e)
+higher-least j k =
+    chosen (λ (v : ℕ). (j ≤ v) × (k ≤ v)) (j <? k) (λ less. (omega (arith, ltb-true, less), le-refl k)) (λ less. (le-refl j, ltb-false j k less))
 
 pub higher-below : (j k : ℕ) {top : ℕ} → j ≤ top → k ≤ top → higher j k ≤ top
-higher-below j k {top} p q = by (j <? k)
-  where
-    by : (less : Bool) → (if less then k else j) ≤ top
-    by true = q
-    by false = p
+higher-below j k {top} p q = chosen (λ (v : ℕ). v ≤ top) (j <? k) (λ _. q) (λ _. p)
 
 -- a place after a store at x: what was there, or what was stored
 pub after-store : (xs : List ℕ) (x v y : ℕ) → (getD (set xs x v) y 0 ≡ getD xs y 0) ⊎ ((y ≡ x) × (getD (set xs x v) y 0 ≡ v))
@@ -61,18 +55,13 @@ grants-never-fall s rec r event x =
       going-on = λ _ _ _. by event;
     })
   where
-    asked : (is-due : Bool) (old new : Outcome Recorder) → old .rec .grants ≡ rec .grants → new .rec .grants ≡ rec .grants
-        → getD (rec .grants) x 0 ≤ getD ((if is-due then new else old) .rec .grants) x 0
-    asked true old new p q = rw q (le-refl _)
-    asked false old new p q = rw p (le-refl _)
-
-    stored : (y j : ℕ) → (getD (set (rec .grants) y (higher (getD (rec .grants) y 0) j)) x 0 ≡ getD (rec .grants) x 0)
-        ⊎ ((x ≡ y) × (getD (set (rec .grants) y (higher (getD (rec .grants) y 0) j)) x 0 ≡ higher (getD (rec .grants) y 0) j))
-        → getD (rec .grants) x 0 ≤ getD (set (rec .grants) y (higher (getD (rec .grants) y 0) j)) x 0
-    stored y j (inl e) = rw e (le-refl _)
-    stored y j (inr w) = rw (w .1, w .0) (higher-least (getD (rec .grants) y 0) j .0)
+    stored : (y v : ℕ) → getD (rec .grants) y 0 ≤ v
+        → (getD (set (rec .grants) y v) x 0 ≡ getD (rec .grants) x 0) ⊎ ((x ≡ y) × (getD (set (rec .grants) y v) x 0 ≡ v))
+        → getD (rec .grants) x 0 ≤ getD (set (rec .grants) y v) x 0
+    stored y v h (inl e) = rw e (le-refl _)
+    stored y v h (inr w) = rw (w .1, w .0) h
 
     by : (event : Event) → getD (rec .grants) x 0 ≤ getD (eventOf s r event (advanced s rec r) .rec .grants) x 0
-    by tick = asked (due s rec r) _ _ refl refl
-    by (grant y j) = stored y j (after-store (rec .grants) y (higher (getD (rec .grants) y 0) j) x)
+    by tick = chosen (λ (outcome : Outcome Recorder). getD (rec .grants) x 0 ≤ getD (outcome .rec .grants) x 0) (due s rec r) (λ _. le-refl _) (λ _. le-refl _)
+    by (grant y j) = stored y _ (higher-least (getD (rec .grants) y 0) j .0) (after-store (rec .grants) y _ x)
     by drive = le-refl _

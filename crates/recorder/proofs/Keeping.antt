@@ -9,17 +9,16 @@ use mathlib.Core.List.{[], _∷_, _++_}
 use lib.ListN.{length, getD, set, replicate, length-append, length-set, List·getD-append}
 use lib.Seq.{take-at, getD-append-seam, getD-set-other}
 use borrow.Author.Tests.{leb-true, ltb-true, ltb-false, eqb-true}
-use Rattle.words.specs.Tests.{if_then_else_, _<?_, _≤?_, _=?_}
+use Rattle.words.specs.Tests.{_<?_, _≤?_, _=?_}
 use Rattle.words.specs.Lists.{every}
-use Rattle.words.specs.Said.{number}
+use Rattle.words.specs.Said.{Said, number}
 use Rattle.words.proofs.Booleans.{not-both}
-use Rattle.words.proofs.Conditions.{second-holds}
+use Rattle.words.proofs.Conditions.{second-holds, chosen}
 use Rattle.settings.specs.declared.Settings.{Settings}
 use Rattle.settings.specs.Settings.{n, η, P, refusalOf}
 use Rattle.settings.proofs.Laws.{accepted-in-range}
-use Rattle.messages.specs.declared.Message.the-variants.{LeaseRequest}
-use Rattle.messages.specs.Answers.{sends as sending, says}
-use Rattle.messages.specs.Outcomes.{Outcome, _leaving_}
+use Rattle.messages.specs.Answers.{Spoken}
+use Rattle.messages.specs.Outcomes.{Outcome}
 use Rattle.messages.proofs.Outcomes.{never-given}
 use Rattle.recorder.specs.declared.Recorder.{Recorder}
 use Rattle.recorder.specs.Recorder.{lastSend, lastReading, openLeases, leases, isZero, spaced, hasForm, kept, lacking, advanced, halted, due, requesting, higher, granting, tickEvent, grantEvent, driveEvent, registered, standing, stepOf, fresh, Event}
@@ -227,21 +226,16 @@ module _ (s : Settings) (rec : Recorder) (r : ℕ) (ok : Allowed s rec r) (sized
 
   pub event-good : (event : Event) → Passes s rec r event → Good s (eventOf s r event (advanced s rec r) .rec)
   unfolding tickEvent grantEvent driveEvent
-  event-good tick passes = by (due s (advanced s rec r) r) refl
-    where
-      now : lastReading (advanced s rec r) ≡ r
-      now = reading-advanced s rec r
-
-      by : (is-due : Bool) → due s (advanced s rec r) r ≡ is-due
-          → Good s ((if is-due then sending (LeaseRequest (advanced s rec r .counter + 1)) leaving requesting (advanced s rec r) r
-          else standing s (advanced s rec r) leaving advanced s rec r) .rec)
-      by true e =
-          let place = room-advanced s rec r (ok .settings) (has-form s rec (ok .form)) (sized .sends) e in
-          record {
-            form = requesting-formed s (advanced s rec r) r (ok .settings) (cleared .form) (cleared .size) now e place;
-            size = requesting-sized s (advanced s rec r) r (ok .settings) (cleared .form) (cleared .size) now e place;
-          }
-      by false e = cleared
+  event-good tick passes =
+      chosen (λ (outcome : Outcome Recorder). Good s (outcome .rec)) (due s (advanced s rec r) r)
+      (λ is-due.
+      let place = room-advanced s rec r (ok .settings) (has-form s rec (ok .form)) (sized .sends) is-due in
+      let now = reading-advanced s rec r in
+      record {
+        form = requesting-formed s (advanced s rec r) r (ok .settings) (cleared .form) (cleared .size) now is-due place;
+        size = requesting-sized s (advanced s rec r) r (ok .settings) (cleared .form) (cleared .size) now is-due place;
+      })
+      (λ _. cleared)
   event-good (grant x j) passes =
       let g = allowed-grant s rec r x j passes in
       record {
@@ -257,7 +251,10 @@ step-good s rec r event good =
       refused = λ _. good;
       stopped = λ _ _. good;
       stopping = λ passes _ lacks.
-          record { form = halted-formed s rec r (allowed s rec r event passes) (good .size) lacks; size = record { sends = good .size .sends; grants = good .size .grants } };
+          record {
+            form = halted-formed s rec r (allowed s rec r event passes) (good .size) lacks;
+            size = record { sends = good .size .sends; grants = good .size .grants };
+          };
       going-on = λ passes running goes. event-good s rec r (allowed s rec r event passes) (good .size) running goes event passes;
     })
 
@@ -295,19 +292,12 @@ no-line-three s rec r drive e = rw e
 -- the events refuse nothing
 standing-given : (s : Settings) (rec : Recorder) → number (standing s rec) ≡ 0
 unfolding standing number
-standing-given s rec = by (registered s rec)
-  where
-    by : (is : Bool) → number (if is then says "running" else says "unregistered") ≡ 0
-    by true = refl
-    by false = refl
+standing-given s rec = chosen (λ (answer : Said Spoken). number answer ≡ 0) (registered s rec) (λ _. refl) (λ _. refl)
 
 event-given : (s : Settings) (r : ℕ) (event : Event) (rec : Recorder) → number (eventOf s r event rec .answer) ≡ 0
 unfolding tickEvent grantEvent driveEvent number
-event-given s r tick rec = by (due s rec r)
-  where
-    by : (is : Bool) → number ((if is then sending (LeaseRequest (rec .counter + 1)) leaving requesting rec r else standing s rec leaving rec) .answer) ≡ 0
-    by true = refl
-    by false = standing-given s rec
+event-given s r tick rec =
+    chosen (λ (outcome : Outcome Recorder). number (outcome .answer) ≡ 0) (due s rec r) (λ _. refl) (λ _. standing-given s rec)
 event-given s r (grant x j) rec = standing-given s (granting rec x j)
 event-given s r drive rec = standing-given s rec
 
@@ -346,13 +336,8 @@ counter-rises s rec r event =
       going-on = λ _ _ _. by event;
     })
   where
-    asked : (is-due : Bool) (old new : Outcome Recorder) → rec .counter ≤ old .rec .counter → rec .counter ≤ new .rec .counter
-        → rec .counter ≤ (if is-due then new else old) .rec .counter
-    asked true old new p q = q
-    asked false old new p q = p
-
     by : (event : Event) → rec .counter ≤ eventOf s r event (advanced s rec r) .rec .counter
-    by tick = asked (due s rec r) _ _ (le-refl _) (omega arith)
+    by tick = chosen (λ (outcome : Outcome Recorder). rec .counter ≤ outcome .rec .counter) (due s rec r) (λ _. omega arith) (λ _. le-refl _)
     by (grant x j) = le-refl _
     by drive = le-refl _
 

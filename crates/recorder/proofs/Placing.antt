@@ -13,15 +13,15 @@ zeros (suc k) zero = refl
 zeros (suc k) (suc i) = zeros k i
 
 module _ (xs : List ℕ) where
+  pub placed-length : length xs ≤ 64 → length (placed xs) ≡ 64
+  placed-length h = length-append xs _ ∙ simp length-replicate (omega arith)
+
   pub placed-unused : (i : ℕ) → length xs ≤ i → getD (placed xs) i 0 ≡ 0
   placed-unused i h =
       let there : length xs + (i - length xs) ≡ i = omega arith in
       ap (λ (j : ℕ). getD (placed xs) j 0) (sym there)
-      ∙ getD-append-add xs (replicate (64 - length xs) 0) (i - length xs) 0
-      ∙ zeros (64 - length xs) (i - length xs)
+      ∙ getD-append-add xs _ (i - length xs) 0
+      ∙ rw zeros
 
   pub placed-back : take (length xs) (placed xs) ≡ xs
-  placed-back = take-append-seam xs (replicate (64 - length xs) 0)
-
-  pub placed-length : length xs ≤ 64 → length (placed xs) ≡ 64
-  placed-length h = length-append xs (replicate (64 - length xs) 0) ∙ rw (length-replicate {A = ℕ} (64 - length xs) 0) (omega arith)
+  placed-back = take-append-seam xs _

@@ -3,14 +3,14 @@ use Prim.Native.Nat.{ℕ, zero, suc, _+_, _-_, _*_, _≤_, _<_}
 use native.Mathlib.Nat.{suc-mul, zero-mul, not-suc-le-zero, le-of-suc-le-suc}
 use native.Mathlib.Omega.{arith}
 use mathlib.Core.Path.{_≡_, refl, ap, _∙_}
-use mathlib.Core.Bool.{Bool, true, false}
+use mathlib.Core.Bool.{true}
 use mathlib.Core.List.{List, [], _∷_, _++_}
 use lib.ListN.{length, getD, drop}
 use lib.Seq.{getD-drop}
-use borrow.Author.Tests.{leb-true, leb-false, lt-leb, le-leb}
-use Rattle.words.specs.Tests.{if_then_else_, _≤?_}
+use borrow.Author.Tests.{leb-true, leb-false, ltb-true, ltb-false, le-leb}
+use Rattle.words.specs.Tests.{_≤?_}
 use Rattle.words.proofs.Booleans.{both-hold}
-use Rattle.words.proofs.Conditions.{holds-both}
+use Rattle.words.proofs.Conditions.{holds-both, chosen}
 use Rattle.settings.specs.declared.Settings.{Settings}
 use Rattle.settings.specs.Settings.{η, P}
 use Rattle.recorder.specs.Recorder.{spaced, hasEnded, kept}
@@ -65,36 +65,33 @@ module _ (s : Settings) (r : ℕ) where
   pub kept-length : (xs : List ℕ) → length (kept s r xs) ≤ length xs
   unfolding kept
   kept-length [] = omega arith
-  kept-length (x ∷ xs) = by (hasEnded s r x) (kept-length xs)
+  kept-length (x ∷ xs) =
+      let rest = kept-length xs in
+      chosen (λ (l : List ℕ). length l ≤ suc (length xs)) (hasEnded s r x) (λ _. omega (arith, rest)) (λ _. omega (arith, rest))
+
+  -- what is kept is young
+  pub kept-young : (xs : List ℕ) (i : ℕ) → i < length (kept s r xs) → r - getD (kept s r xs) i 0 < P s
+  unfolding kept
+  kept-young [] = λ i h. absurd (not-suc-le-zero h)
+  kept-young (x ∷ xs) =
+      chosen (λ (l : List ℕ). (i : ℕ) → i < length l → r - getD l i 0 < P s) (hasEnded s r x) (λ over. kept-young xs)
+      (λ lasts. with-first (kept s r xs) (omega (arith, leb-false, ltb-false, lasts)) (kept-young xs))
     where
-      by : (ended : Bool) → length (kept s r xs) ≤ length xs
-          → length (if ended then kept s r xs else x ∷ kept s r xs) ≤ suc (length xs)
-      by true h = omega arith
-      by false h = omega arith
+      with-first : (ys : List ℕ) → r - x < P s → ((i : ℕ) → i < length ys → r - getD ys i 0 < P s)
+          → (i : ℕ) → i < suc (length ys) → r - getD (x ∷ ys) i 0 < P s
+      with-first ys young rest zero h = young
+      with-first ys young rest (suc i) h = rest i (le-of-suc-le-suc h)
 
   -- a young one is kept
   pub kept-some : (xs : List ℕ) (i : ℕ) → i < length xs → r - getD xs i 0 < P s → 1 ≤ length (kept s r xs)
   unfolding kept
   kept-some [] i h young = absurd (not-suc-le-zero h)
-  kept-some (x ∷ xs) zero h young = rw (lt-leb (P s) (r - x) young) (omega arith)
-  kept-some (x ∷ xs) (suc i) h young = by (hasEnded s r x) (kept-some xs i (le-of-suc-le-suc h) young)
-    where
-      by : (over : Bool) → 1 ≤ length (kept s r xs) → 1 ≤ length (if over then kept s r xs else x ∷ kept s r xs)
-      by true some = some
-      by false some = omega arith
-
-  -- what is kept is young
-  pub kept-young : (xs : List ℕ) (i : ℕ) → i < length (kept s r xs) → r - getD (kept s r xs) i 0 < P s
-  unfolding kept
-  kept-young [] i h = absurd (not-suc-le-zero h)
-  kept-young (x ∷ xs) i h = by (kept-young xs) (hasEnded s r x) refl i h
-    where
-      by : ((j : ℕ) → j < length (kept s r xs) → r - getD (kept s r xs) j 0 < P s) → (ended : Bool) → hasEnded s r x ≡ ended
-          → (j : ℕ) → j < length (if ended then kept s r xs else x ∷ kept s r xs)
-          → r - getD (if ended then kept s r xs else x ∷ kept s r xs) j 0 < P s
-      by rest true e j h = rest j h
-      by rest false e zero h = leb-false (P s) (r - x) e
-      by rest false e (suc j) h = rest j (le-of-suc-le-suc h)
+  kept-some (x ∷ xs) zero h young =
+      chosen (λ (l : List ℕ). 1 ≤ length l) (hasEnded s r x)
+      (λ over. let z : ⊥ = omega (arith, leb-true, ltb-true, over) in absurd z) (λ lasts. omega arith)
+  kept-some (x ∷ xs) (suc i) h young =
+      chosen (λ (l : List ℕ). 1 ≤ length l) (hasEnded s r x)
+      (λ over. kept-some xs i (le-of-suc-le-suc h) young) (λ lasts. omega arith)
 
   -- after a young one all are young
   after-young : 1 ≤ η s → (x : ℕ) (xs : List ℕ) → spaced (η s) (x ∷ xs) ≡ true → r - x < P s → kept s r xs ≡ xs
@@ -104,7 +101,9 @@ module _ (s : Settings) (r : ℕ) where
       let parts = both-hold (η s ≤? y - x) (spaced (η s) (y ∷ ys)) e in
       let step = leb-true (η s) (y - x) (parts .0) in
       let young′ : r - y < P s = omega arith in
-      rw (lt-leb (P s) (r - y) young′) (ap (λ (l : List ℕ). y ∷ l) (after-young h y ys (parts .1) young′))
+      chosen (λ (l : List ℕ). l ≡ y ∷ ys) (hasEnded s r y)
+      (λ over. let z : ⊥ = omega (arith, leb-true, ltb-true, over) in absurd z)
+      (λ lasts. ap (λ (l : List ℕ). y ∷ l) (after-young h y ys (parts .1) young′))
 
   -- how many have ended
   abbrev pub ended : List ℕ → ℕ
@@ -113,19 +112,16 @@ module _ (s : Settings) (r : ℕ) where
   pub kept-newest : 1 ≤ η s → (xs : List ℕ) → spaced (η s) xs ≡ true → kept s r xs ≡ drop (ended xs) xs
   unfolding kept
   kept-newest h [] e = refl
-  kept-newest h (x ∷ xs) e = by (kept-newest h xs (spaced-rest (η s) x xs e)) (hasEnded s r x) refl
-    where
-      by : kept s r xs ≡ drop (ended xs) xs → (over : Bool) → hasEnded s r x ≡ over
-          → (if over then kept s r xs else x ∷ kept s r xs)
-          ≡ drop (length (x ∷ xs) - length (if over then kept s r xs else x ∷ kept s r xs)) (x ∷ xs)
-      by rest true u =
-          let fewer = kept-length xs in
-          let one-more : suc (length xs) - length (kept s r xs) ≡ suc (ended xs) = omega arith in
-          rest ∙ rw one-more
-      by rest false u =
-          let all = after-young h x xs e (leb-false (P s) (r - x) u) in
-          let none : suc (length xs) - suc (length xs) ≡ 0 = omega arith in
-          rw (all, none)
+  kept-newest h (x ∷ xs) e =
+      chosen (λ (l : List ℕ). l ≡ drop (suc (length xs) - length l) (x ∷ xs)) (hasEnded s r x)
+      (λ over.
+      let fewer = kept-length xs in
+      let one-more : suc (length xs) - length (kept s r xs) ≡ suc (ended xs) = omega arith in
+      kept-newest h xs (spaced-rest (η s) x xs e) ∙ rw one-more)
+      (λ lasts.
+      let all = after-young h x xs e (omega (arith, leb-false, ltb-false, lasts)) in
+      let none : suc (length xs) - suc (length xs) ≡ 0 = omega arith in
+      rw (all, none))
 
   pub kept-spaced : 1 ≤ η s → (xs : List ℕ) → spaced (η s) xs ≡ true → spaced (η s) (kept s r xs) ≡ true
   kept-spaced h xs e = rw (kept-newest h xs e) (spaced-drop (η s) (ended xs) xs e)
@@ -143,14 +139,16 @@ module _ (s : Settings) (r : ℕ) where
   -- those before them have ended
   pub ended-first : 1 ≤ η s → (xs : List ℕ) → spaced (η s) xs ≡ true → (i : ℕ) → i < ended xs → P s ≤ r - getD xs i 0
   unfolding kept
-  ended-first h [] e i below = let z : ⊥ = omega arith in absurd z
-  ended-first h (x ∷ xs) e i below = by (ended-first h xs (spaced-rest (η s) x xs e)) (hasEnded s r x) refl i below
+  ended-first h [] e = λ i below. let z : ⊥ = omega arith in absurd z
+  ended-first h (x ∷ xs) e =
+      chosen (λ (l : List ℕ). (i : ℕ) → i < suc (length xs) - length l → P s ≤ r - getD (x ∷ xs) i 0) (hasEnded s r x)
+      (λ over. with-first (omega (arith, leb-true, ltb-true, over)) (ended-first h xs (spaced-rest (η s) x xs e)))
+      (λ lasts i below.
+      let all = ap length (after-young h x xs e (omega (arith, leb-false, ltb-false, lasts))) in
+      let z : ⊥ = omega arith in
+      absurd z)
     where
-      by : ((j : ℕ) → j < ended xs → P s ≤ r - getD xs j 0) → (over : Bool) → hasEnded s r x ≡ over
-          → (j : ℕ) → j < suc (length xs) - length (if over then kept s r xs else x ∷ kept s r xs) → P s ≤ r - getD (x ∷ xs) j 0
-      by rest true u zero below = leb-true (P s) (r - x) u
-      by rest true u (suc j) below = rest j (omega arith)
-      by rest false u j below =
-          let all = ap length (after-young h x xs e (leb-false (P s) (r - x) u)) in
-          let z : ⊥ = omega arith in
-          absurd z
+      with-first : P s ≤ r - x → ((i : ℕ) → i < ended xs → P s ≤ r - getD xs i 0)
+          → (i : ℕ) → i < suc (length xs) - length (kept s r xs) → P s ≤ r - getD (x ∷ xs) i 0
+      with-first over rest zero below = over
+      with-first over rest (suc i) below = rest i (omega arith)

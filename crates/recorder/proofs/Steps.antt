@@ -9,13 +9,14 @@ use mathlib.Core.List.{List, [], _∷_, _++_}
 use lib.ListN.{length, getD, set, length-append, List·getD-append}
 use lib.Seq.{getD-drop, getD-append-seam}
 use Rattle.words.specs.Tests.{if_then_else_, _<?_}
-use Rattle.words.specs.Said.{number}
+use Rattle.words.specs.Said.{Said, first, number}
+use Rattle.words.proofs.Conditions.{chosen}
 use Rattle.settings.specs.declared.Settings.{Settings}
 use Rattle.settings.specs.Settings.{η, P, refusalOf}
 use Rattle.settings.specs.Quorums.{survives}
 use Rattle.settings.proofs.Laws.{accepted-in-range}
 use Rattle.messages.specs.declared.Message.the-variants.{LeaseRequest}
-use Rattle.messages.specs.Answers.{sends as sending, says}
+use Rattle.messages.specs.Answers.{Spoken, sends as sending, refuses, says}
 use Rattle.messages.specs.Outcomes.{Outcome, _leaving_}
 use Rattle.messages.proofs.Outcomes.{same-word}
 use Rattle.recorder.specs.declared.Recorder.{Recorder}
@@ -28,7 +29,7 @@ use Rattle.recorder.proofs.Room.{leases-length, leases-last, room-advan
 use Rattle.recorder.proofs.Placing.{placed-back}
 use Rattle.recorder.proofs.Grants.{after-store}
 use Rattle.recorder.proofs.Lacking.{ended-granted}
-use Rattle.recorder.proofs.Ways.{eventOf, Passes, Allowed, allowed, each-way}
+use Rattle.recorder.proofs.Ways.{refusalsOf, eventOf, Passes, Allowed, allowed, each-way}
 use Rattle.recorder.proofs.Keeping.{Good, step-good, advanced-formed, advanced-sized, leases-requesting}
 
 -- a step that goes on to its event
@@ -39,17 +40,33 @@ pub record Going (s : Settings) (rec : Recorder) (r : ℕ) (event : Event) : Typ
   pub outcome : stepOf s rec r event ≡ eventOf s r event (advanced s rec r)
 
 module _ (s : Settings) (rec : Recorder) (r : ℕ) (event : Event) where
-  -- not refused, and not stopped after it
-  pub going : Passes s rec r event → stepOf s rec r event .rec .stopped ≡ 0 → Going s rec r event
-  going passes on =
-      each-way s rec r event (λ outcome. outcome .rec .stopped ≡ 0 → stepOf s rec r event ≡ outcome → Going s rec r event)
+  -- a refused step leaves all as it came
+  pub refused : (Passes s rec r event → ⊥) → stepOf s rec r event ≡ (refuses (first (refusalsOf s rec r event)) leaving rec)
+  refused fails =
+      each-way s rec r event (λ outcome. outcome ≡ (refuses (first (refusalsOf s rec r event)) leaving rec))
       (record {
-        refused = λ no _ _. absurd (no passes);
-        stopped = λ _ no on _. absurd (no on);
-        stopping = λ _ _ _ on _. let z : ⊥ = omega arith in absurd z;
-        going-on = λ p running goes _ same. record { passes = p; running = running; not-lacking = goes; outcome = same };
+        refused = λ _. refl;
+        stopped = λ passes. absurd (fails passes);
+        stopping = λ passes. absurd (fails passes);
+        going-on = λ passes. absurd (fails passes);
       })
-      on refl
+
+  -- an accepted one says *stopped* and leaves the recorder stopped, or goes on
+  pub stopped-or-going : Passes s rec r event
+      → ((stepOf s rec r event .answer ≡ says "stopped") × (stepOf s rec r event .rec .stopped ≡ 0 → ⊥)) ⊎ Going s rec r event
+  stopped-or-going passes =
+      each-way s rec r event
+      (λ outcome. stepOf s rec r event ≡ outcome → ((outcome .answer ≡ says "stopped") × (outcome .rec .stopped ≡ 0 → ⊥)) ⊎ Going s rec r event)
+      (record {
+        refused = λ fails. absurd (fails passes);
+        stopped = λ _ flag _. inl (refl, flag);
+        stopping = λ _ _ _ _. inl (refl, λ z. omega arith);
+        going-on = λ p running goes same. inr (record { passes = p; running = running; not-lacking = goes; outcome = same });
+      })
+      refl
+
+  pub going : Passes s rec r event → stepOf s rec r event .rec .stopped ≡ 0 → Going s rec r event
+  going passes on = ⊎-elim (λ w. absurd (w .1 on)) (λ g. g) (stopped-or-going passes)
 
   -- the same by the answer: no refusal, and not *stopped*
   pub going-by-answer : number (stepOf s rec r event .answer) ≡ 0 → (stepOf s rec r event .answer ≡ says "stopped" → ⊥) → Going s rec r event
@@ -58,7 +75,7 @@ module _ (s : Settings) (rec : Recorder) (r : ℕ) (event : Event) where
       each-way s rec r event
       (λ outcome. number (outcome .answer) ≡ 0 → (outcome .answer ≡ says "stopped" → ⊥) → stepOf s rec r event ≡ outcome → Going s rec r event)
       (record {
-        refused = λ no given _ _. absurd (no given);
+        refused = λ fails given _ _. absurd (fails given);
         stopped = λ _ _ _ other _. absurd (other refl);
         stopping = λ _ _ _ _ other _. absurd (other refl);
         going-on = λ p running goes _ _ same. record { passes = p; running = running; not-lacking = goes; outcome = same };
@@ -112,13 +129,9 @@ module _ (s : Settings) (rec : Recorder) (r : ℕ) (ok : Allowed s rec r) (sized
 
   pub event-leaves : (event : Event) → Quiet s rec r (eventOf s r event (advanced s rec r)) ⊎ ((event ≡ tick) × Asking s rec r (eventOf s r event (advanced s rec r)))
   unfolding advanced tickEvent grantEvent driveEvent
-  event-leaves tick = by (due s rec r) refl
-    where
-      by : (is : Bool) → due s rec r ≡ is
-          → Quiet s rec r (if is then sending (LeaseRequest (advanced s rec r .counter + 1)) leaving requesting (advanced s rec r) r else standing s (advanced s rec r) leaving advanced s rec r)
-          ⊎ ((tick ≡ tick) × Asking s rec r (if is then sending (LeaseRequest (advanced s rec r .counter + 1)) leaving requesting (advanced s rec r) r else standing s (advanced s rec r) leaving advanced s rec r))
-      by true e = inr (refl, asking e)
-      by false e = inl quiet
+  event-leaves tick =
+      chosen (λ (outcome : Outcome Recorder). Quiet s rec r outcome ⊎ ((tick ≡ tick) × Asking s rec r outcome)) (due s rec r)
+      (λ is-due. inr (refl, asking is-due)) (λ _. inl quiet)
   event-leaves (grant x j) = inl (record { running = running; reading = refl; answer = refl; counter = refl; last-send = refl; leases = leases-advanced })
   event-leaves drive = inl quiet
 
@@ -237,11 +250,6 @@ place-after s rec r event y =
       going-on = λ _ _ _. by event;
     })
   where
-    asked : (is : Bool) (old new : Outcome Recorder) → old .rec .grants ≡ rec .grants → new .rec .grants ≡ rec .grants
-        → getD ((if is then new else old) .rec .grants) y 0 ≡ getD (rec .grants) y 0
-    asked true old new p q = rw q
-    asked false old new p q = rw p
-
     stored : (x j : ℕ) (greater : Bool) (v : ℕ) → v ≡ (if greater then j else getD (rec .grants) x 0)
         → (getD (set (rec .grants) x v) y 0 ≡ getD (rec .grants) y 0) ⊎ ((y ≡ x) × (getD (set (rec .grants) x v) y 0 ≡ v))
         → (getD (set (rec .grants) x v) y 0 ≡ getD (rec .grants) y 0) ⊎ ((k : ℕ) × (grant x j ≡ grant y k) × (getD (set (rec .grants) x v) y 0 ≡ k))
@@ -251,18 +259,16 @@ place-after s rec r event y =
 
     by : (e : Event) → (getD (eventOf s r e (advanced s rec r) .rec .grants) y 0 ≡ getD (rec .grants) y 0)
         ⊎ ((j : ℕ) × (e ≡ grant y j) × (getD (eventOf s r e (advanced s rec r) .rec .grants) y 0 ≡ j))
-    by tick = inl (asked (due s rec r) _ _ refl refl)
+    by tick = inl (chosen (λ (outcome : Outcome Recorder). getD (outcome .rec .grants) y 0 ≡ getD (rec .grants) y 0) (due s rec r) (λ _. refl) (λ _. refl))
     by (grant x j) = stored x j (getD (rec .grants) x 0 <? j) _ refl (after-store (rec .grants) x (higher (getD (rec .grants) x 0) j) y)
     by drive = inl refl
 
 -- *running* is said only by a step that goes on, and only of a registered recorder
 running-registered : (s : Settings) (rec : Recorder) → standing s rec ≡ says "running" → registered s rec ≡ true
 unfolding standing
-running-registered s rec = by (registered s rec)
-  where
-    by : (is : Bool) → (if is then says "running" else says "unregistered") ≡ says "running" → is ≡ true
-    by true e = refl
-    by false e = let z : ⊥ = omega (arith, ap (λ (w : List ℕ). getD w 0 0) (same-word e)) in absurd z
+running-registered s rec =
+    chosen (λ (answer : Said Spoken). answer ≡ says "running" → registered s rec ≡ true) (registered s rec) (λ is _. is)
+    (λ _ same. let z : ⊥ = omega (arith, ap (λ (w : List ℕ). getD w 0 0) (same-word same)) in absurd z)
 
 pub going-by-running : (s : Settings) (rec : Recorder) (r : ℕ) (event : Event) → stepOf s rec r event .answer ≡ says "running" → Going s rec r event
 unfolding number

@@ -2,22 +2,23 @@
 -- event. Assumes nothing.
 use Prim.Native.Nat.{ℕ, _<_, _≤_}
 use mathlib.Core.Path.{_≡_, refl}
-use mathlib.Core.Bool.{Bool, true, false, _||_, not}
-use mathlib.Core.List.{List, [], _∷_}
-use borrow.Author.Tests.{leb-false, ltb-false, eqb-true, eqb-false, not-false}
-use Rattle.words.specs.Tests.{if_then_else_, _<?_, _≤?_}
+use mathlib.Core.Bool.{true, false, not}
+use mathlib.Core.List.{List}
+use borrow.Author.Tests.{leb-false, ltb-false, eqb-true, eqb-false, not-true, not-false}
+use Rattle.words.specs.Tests.{_<?_}
 use Rattle.words.specs.Lists.{every}
-use Rattle.words.specs.Said.{Refusal, first, _when_}
+use Rattle.words.specs.Said.{Refusal, first}
 use Rattle.words.proofs.Booleans.{neither-holds}
+use Rattle.words.proofs.Conditions.{chosen}
 use Rattle.words.proofs.Said.{none-applies}
 use Rattle.settings.specs.declared.Settings.{Settings}
 use Rattle.settings.specs.Settings.{n, refusals, refusalOf}
 use Rattle.messages.specs.Messages.{topReading}
 use Rattle.messages.specs.Answers.{refuses, says}
-use Rattle.messages.specs.Outcomes.{Outcome, _leaving_, badReading}
+use Rattle.messages.specs.Outcomes.{Outcome, _leaving_}
 use Rattle.messages.proofs.Outcomes.{either-way, both-pass}
 use Rattle.recorder.specs.declared.Recorder.{Recorder}
-use Rattle.recorder.specs.Recorder.{lastReading, isZero, hasForm, stepRefusals, grantRefusals, lacking, advanced, halted, accepted, tickEvent, grantEvent, driveEvent, tickOf, grantOf, driveOf, stepOf, Event}
+use Rattle.recorder.specs.Recorder.{lastReading, isZero, stepRefusals, grantRefusals, lacking, advanced, halted, accepted, tickEvent, grantEvent, driveEvent, tickOf, grantOf, driveOf, stepOf, Event}
 use Rattle.recorder.specs.Recorder.Event.{tick, grant, drive}
 use Rattle.recorder.proofs.Formed.{Formed, formed, positive}
 
@@ -49,19 +50,16 @@ module _ (s : Settings) (rec : Recorder) (r : ℕ) where
   allowed-step e =
       let reading = neither-holds (topReading <? r) (r <? lastReading rec) (none-applies (stepRefusals s rec r) e refl 3) in
       record {
-        settings = both-pass (refusals s) (3 when not (hasForm s rec) ∷ 4 when badReading (lastReading rec) r ∷ []) refl e .0;
+        settings = both-pass (refusals s) _ refl e .0;
         form = formed s rec (not-false _ (none-applies (stepRefusals s rec r) e refl 2));
         reading-top = ltb-false _ _ (reading .0);
         reading-last = ltb-false _ _ (reading .1);
       }
 
-  grant-lines : (x j : ℕ) → List Refusal
-  grant-lines x j = 5 when (n s ≤? x) ∷ 6 when (isZero j || (rec .counter <? j)) ∷ []
-
   pub allowed : (event : Event) → Passes s rec r event → Allowed s rec r
-  unfolding every grant-lines
+  unfolding every
   allowed tick e = allowed-step e
-  allowed (grant x j) e = allowed-step (both-pass (stepRefusals s rec r) (grant-lines x j) refl e .0)
+  allowed (grant x j) e = allowed-step (both-pass (stepRefusals s rec r) _ refl e .0)
   allowed drive e = allowed-step e
 
   -- a grant that is not refused comes from an observer and has been asked for
@@ -81,15 +79,11 @@ pub record Ways (s : Settings) (rec : Recorder) (r : ℕ) (event : Event) (Q : O
 module _ (s : Settings) (rec : Recorder) (r : ℕ) (event : Event) (Q : Outcome Recorder → Type 0) where
   when-accepted : Ways s rec r event Q → Passes s rec r event → Q (accepted s rec r (eventOf s r event))
   unfolding accepted
-  when-accepted w passes = by (isZero (rec .stopped)) (lacking s rec r) refl refl
-    where
-      by : (running lacks : Bool) → isZero (rec .stopped) ≡ running → lacking s rec r ≡ lacks
-          → Q (if not running then says "stopped" leaving rec
-          else if lacks then says "stopped" leaving halted rec r
-          else eventOf s r event (advanced s rec r))
-      by true true e l = w .stopping passes (eqb-true _ 0 e) l
-      by true false e l = w .going-on passes (eqb-true _ 0 e) l
-      by false lacks e l = w .stopped passes (eqb-false _ 0 e)
+  when-accepted w passes =
+      chosen Q (not (isZero (rec .stopped))) (λ flag. w .stopped passes (eqb-false _ 0 (not-true _ flag)))
+      (λ flag.
+      let running = eqb-true _ 0 (not-false _ flag) in
+      chosen Q (lacking s rec r) (w .stopping passes running) (w .going-on passes running))
 
 pub each-way : (s : Settings) (rec : Recorder) (r : ℕ) (event : Event) (Q : Outcome Recorder → Type 0)
     → Ways s rec r event Q → Q (stepOf s rec r event)
