@@ -11,11 +11,11 @@ ghost use Rattle.messages.specs.Answers.{said};
 ghost use Rattle.recorder.specs.Recorder.{isZero, spaced, hasForm, stepRefusals, grantRefusals, granted, standing, higher, tickEvent, grantEvent, tickOf, grantOf, driveOf};
 ghost use Rattle.recorder.specs.Outcome.{outcome};
 ghost use Rattle.recorder.specs.Parts.{Bounded, SiftedAt, advancedTo, Roomy};
-ghost use Rattle.recorder.specs.Claims.{FormIsKept, StoppedStays, GrantsNeverFall, PlacesSuffice, NewestAreKept};
 use messages::Answer;
 use messages::Message;
 use messages::TOP_COUNTER;
 use messages::TOP_READING;
+ghost use Rattle.recorder.specs.Claims.{FormIsKept, StoppedStays, GrantsNeverFall, PlacesSuffice, NewestAreKept};
 use settings::Settings;
 use settings::contains_survival_quorum;
 

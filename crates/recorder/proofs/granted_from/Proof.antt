@@ -1,45 +1,57 @@
+-- `recorder::granted_from` meets its contract. The loop's invariant: the marks of the observers passed are set, the rest are
+-- not. Assumes nothing.
+use Prim.Native.Nat.{ℕ, suc, _+_, _≤_, _-_}
+use native.Mathlib.Omega.{arith}
+use mathlib.Core.Path.{_≡_, refl, _∙_}
+use mathlib.Core.Bool.{false}
+use mathlib.Core.List.{_++_, map, append-nil}
+use lib.ListN.{take, replicate}
+use lib.Seq.{take-all}
+use Rattle.words.specs.Tests.{_≤?_}
+use Rattle.words.proofs.Gathered.{map-more}
 use Rattle.recorder.proofs.granted_from.Statement.{statement}
 use Rattle.recorder.proofs.granted_from.Tie as tie
-use Rattle.recorder.proofs.granted_from.Reads as reads
-use Rattle.recorder.proofs.granted_from.Lts as lts
 
 abbrev Inv-loop : tie.InvT-loop
-Inv-loop number grants set₀ i₀ set i = ?
+Inv-loop number grants set₀ i₀ set i =
+    (i ≤ 16) × (set ≡ map (λ grant. number ≤? grant) (take i grants) ++ replicate (16 - i) false)
 
 abbrev μ-loop : tie.MeasureT-loop
-μ-loop number grants set₀ i₀ set i = ?
+μ-loop number grants set₀ i₀ set i = 16 - i
 
--- src/lib.rt:206:5
 loop-holds : tie.Need-loop-holds Inv-loop μ-loop
-loop-holds c = ?
+loop-holds c = (omega arith, refl)
 
--- src/lib.rt:207:28
 mul-set : tie.Need-mul-set Inv-loop μ-loop
-mul-set c = ?
+mul-set c = omega arith
 
--- src/lib.rt:207:28
 array-read-set : tie.Need-array-read-set Inv-loop μ-loop
-array-read-set c = ?
+array-read-set c = omega arith
 
--- src/lib.rt:207:9
 array-write-set : tie.Need-array-write-set Inv-loop μ-loop
-array-write-set c = ?
+array-write-set c = omega arith
 
--- src/lib.rt:206:9
 add-i : tie.Need-add-i Inv-loop μ-loop
-add-i c = ?
+add-i c = omega arith
 
--- src/lib.rt:206:5
 loop-less : tie.Need-loop-less Inv-loop μ-loop
-loop-less c = ?
+loop-less c = omega arith
 
--- src/lib.rt:206:5
 loop-again : tie.Need-loop-again Inv-loop μ-loop
-loop-again c = ?
+loop-again c =
+    let l = c .before in
+    let a = l .before .args in
+    let left : 16 - l .loop .i ≡ suc (16 - (l .loop .i + 1)) = omega arith in (
+      omega arith,
+      rw (l .loop .inv .1, left) (map-more (λ grant. a .number ≤? grant) 0 false (a .t1) (l .loop .i) (16 - (l .loop .i + 1)) (omega arith)),
+    )
 
--- src/lib.rt:202:1
 returns : tie.Need-returns Inv-loop μ-loop
-returns c = ?
+returns c =
+    let l = c .before in
+    let a = l .before .args in
+    let none : 16 - l .loop .i ≡ 0 = omega arith in
+    l .loop .inv .1 ∙ rw (none, take-all (l .loop .i) (a .t1) (omega arith)) (append-nil (map (λ grant. a .number ≤? grant) (a .t1)))
 
 pub granted-from-spec : {M : Type 1} → statement M
 granted-from-spec =

@@ -1,41 +1,46 @@
+-- `recorder::grants_unused` meets its contract. The loop's invariant: all places are 0 exactly if those passed were and those to
+-- come are. Assumes nothing.
+use Prim.Native.Nat.{_-_}
+use native.Mathlib.Omega.{arith}
+use mathlib.Core.Path.{_≡_, refl}
+use mathlib.Core.Bool.{_&&_}
+use lib.ListN.{drop}
+use Rattle.words.specs.Lists.{every}
+use Rattle.words.proofs.Walks.{every-more, every-done}
+use Rattle.recorder.specs.Recorder.{isZero}
 use Rattle.recorder.proofs.grants_unused.Statement.{statement}
 use Rattle.recorder.proofs.grants_unused.Tie as tie
-use Rattle.recorder.proofs.grants_unused.Reads as reads
-use Rattle.recorder.proofs.grants_unused.Lts as lts
 
 abbrev Inv-loop : tie.InvT-loop
-Inv-loop first grants ok₀ i₀ ok i = ?
+Inv-loop first grants ok₀ i₀ ok i = every isZero (drop first grants) ≡ (ok && every isZero (drop i grants))
 
 abbrev μ-loop : tie.MeasureT-loop
-μ-loop first grants ok₀ i₀ ok i = ?
+μ-loop first grants ok₀ i₀ ok i = 16 - i
 
--- src/lib.rt:90:5
 loop-holds : tie.Need-loop-holds Inv-loop μ-loop
-loop-holds c = ?
+loop-holds c = refl
 
--- src/lib.rt:91:20
 mul-ok : tie.Need-mul-ok Inv-loop μ-loop
-mul-ok c = ?
+mul-ok c = omega arith
 
--- src/lib.rt:91:20
 array-read-ok : tie.Need-array-read-ok Inv-loop μ-loop
-array-read-ok c = ?
+array-read-ok c = omega arith
 
--- src/lib.rt:92:9
 add-i : tie.Need-add-i Inv-loop μ-loop
-add-i c = ?
+add-i c = omega arith
 
--- src/lib.rt:90:5
 loop-less : tie.Need-loop-less Inv-loop μ-loop
-loop-less c = ?
+loop-less c = omega arith
 
--- src/lib.rt:90:5
 loop-again : tie.Need-loop-again Inv-loop μ-loop
-loop-again c = ?
+loop-again c =
+    let l = c .before in
+    every-more isZero (l .before .args .t1) (l .loop .i) 0 (l .loop .ok) (omega arith) (l .loop .inv)
 
--- src/lib.rt:85:1
 returns : tie.Need-returns Inv-loop μ-loop
-returns c = ?
+returns c =
+    let l = c .before in
+    every-done isZero (l .before .args .t1) (l .loop .i) (l .loop .ok) (omega arith) (l .loop .inv)
 
 pub grants-unused-spec : {M : Type 1} → statement M
 grants-unused-spec =

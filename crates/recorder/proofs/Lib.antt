@@ -1,0 +1,4 @@
+-- Laws of the recorder.
+pub mod Places
+pub mod Leases
+pub mod Coded
