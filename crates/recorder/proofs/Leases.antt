@@ -86,16 +86,6 @@ module _ (s : Settings) (r : ℕ) where
   unfolding kept
   kept-young xs i h young = rw (add-one i, take-suc xs i 0 h, kept-append (take i xs) (getD xs i 0), young)
 
-  -- none is added
-  pub kept-few : (xs : List ℕ) → length (kept s r xs) ≤ length xs
-  unfolding kept
-  kept-few [] = omega arith
-  kept-few (x ∷ xs) = by (hasEnded s r x) (kept-few xs)
-    where
-      by : (b : Bool) → length (kept s r xs) ≤ length xs → length (if b then kept s r xs else x ∷ kept s r xs) ≤ suc (length xs)
-      by true h = omega arith
-      by false h = omega arith
-
 -- ---- One lease more in its place
 
 pub placed-push : (xs : List ℕ) (x : ℕ) → length xs < 64 → set (placed xs) (length xs) x ≡ placed (xs ++ (x ∷ []))

@@ -1,4 +1,15 @@
 -- Laws of the recorder.
-pub mod Places
-pub mod Leases
-pub mod Coded
+pub mod Formed
+pub mod Spacing
+pub mod Room
+pub mod Ways
+pub mod Grants
+pub mod Staying
+pub mod Placing
+pub mod Lacking
+pub mod Keeping
+pub mod Steps
+mod Places
+mod Leases
+mod Coded
+mod Walked

@@ -11,7 +11,8 @@ use Rattle.words.specs.Tests.{if_then_else_, _≤?_}
 use Rattle.words.specs.Lists.{countWhere}
 use Rattle.words.proofs.Booleans.{not-both}
 use Rattle.words.proofs.Walks.{count-suc}
-use Rattle.settings.specs.Settings.{n}
+use Rattle.settings.specs.declared.Settings.{Settings}
+use Rattle.settings.specs.Settings.{n, refusalOf}
 use Rattle.settings.specs.Quorums.{_∋_, members, survives, closes, QuorumsMeet, QuorumsGrow}
 use Rattle.settings.proofs.Laws.{accepted-in-range}
 
@@ -67,3 +68,19 @@ quorums-grow s set larger has =
   where
     still : (k : ℕ) → (k ≤? marks (n s) set) ≡ true → (k ≤? marks (n s) larger) ≡ true
     still k e = le-leb k (marks (n s) larger) (le-trans (leb-true k (marks (n s) set) e) (grow (n s) set larger has))
+
+-- a set with some of the first k has one of them
+some-mark : (k : ℕ) (set : List Bool) → 1 ≤ marks k set → (x : ℕ) × (x < k) × (set ∋ x)
+unfolding countWhere
+some-mark zero set h = let z : ⊥ = omega arith in absurd z
+some-mark (suc k) set h = by (some-mark k set) (getD set k false) refl (rw (marks-suc set k) at h)
+  where
+    by : (1 ≤ marks k set → (x : ℕ) × (x < k) × (set ∋ x)) → (a : Bool) → getD set k false ≡ a
+        → 1 ≤ (if a then suc (marks k set) else marks k set) → (x : ℕ) × (x < suc k) × (set ∋ x)
+    by rest true e h = (k, omega arith, e)
+    by rest false e h = let m = rest h in (m .0, omega arith, m .2)
+
+-- a survival quorum is not empty
+pub a-survivor : (s : Settings) → refusalOf s ≡ 0 → (set : List Bool) → survives s set ≡ true → (x : ℕ) × (x < n s) × (set ∋ x)
+unfolding survives members
+a-survivor s accepted set e = let range = accepted-in-range s accepted in some-mark (n s) set (omega (arith, leb-true))

@@ -1,11 +1,10 @@
+-- Every step leaves a record of the form. Assumes nothing.
 use Rattle.recorder.proofs.form_is_kept.Statement.{statement}
 use Rattle.recorder.proofs.form_is_kept.Tie as tie
-use Rattle.recorder.proofs.form_is_kept.Reads as reads
-use Rattle.recorder.proofs.form_is_kept.Lts as lts
+use Rattle.recorder.proofs.Keeping.{form-is-kept}
 
--- src/lib.rt:20:1
 returns : tie.Need-returns
-returns c = ?
+returns c = form-is-kept
 
 pub form-is-kept-spec : {M : Type 1} → statement M
 form-is-kept-spec = tie.close (tie.spec returns)

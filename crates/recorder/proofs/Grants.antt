@@ -1,0 +1,78 @@
+-- The places of grants: who has granted a number, and that no step lowers a place. Assumes nothing.
+use Prim.Native.Nat.{ℕ, _≤_}
+use native.Mathlib.Nat.{le-refl}
+use native.Mathlib.Omega.{arith}
+use mathlib.Core.Path.{_≡_, refl, sym, ap, _∙_}
+use mathlib.Core.Logic.{_⊎_, inl, inr}
+use mathlib.Core.Bool.{Bool, true, false}
+use mathlib.Core.List.{List}
+use lib.ListN.{length, getD, set, List·getD-map}
+use lib.Seq.{getD-set-same, getD-set-other, set-out}
+use borrow.Author.Tests.{ltb-true, ltb-false, eqb-true, eqb-false, lt-leb}
+use Rattle.words.specs.Tests.{if_then_else_, _<?_, _≤?_, _=?_}
+use Rattle.messages.specs.Outcomes.{Outcome}
+use Rattle.recorder.specs.declared.Recorder.{Recorder}
+use Rattle.recorder.specs.Recorder.{granted, higher, advanced, due, tickEvent, grantEvent, driveEvent, Event}
+use Rattle.recorder.specs.Recorder.Event.{tick, grant, drive}
+use Rattle.recorder.specs.Claims.{GrantsNeverFall}
+use Rattle.recorder.proofs.Ways.{eventOf, each-way}
+
+-- whether observer x has granted a number is seen in its place
+pub granted-at : (rec : Recorder) (number x : ℕ) → 1 ≤ number → getD (granted rec number) x false ≡ (number ≤? getD (rec .grants) x 0)
+granted-at rec number x h =
+    ap (λ (past : Bool). getD (granted rec number) x past) (sym (lt-leb number 0 h))
+    ∙ List·getD-map (λ grant. number ≤? grant) (rec .grants) x 0
+
+-- the greater number is none but one of the two, and below neither
+pub higher-least : (j k : ℕ) → (j ≤ higher j k) × (k ≤ higher j k)
+higher-least j k = by (j <? k) refl
+  where
+    by : (less : Bool) → (j <? k) ≡ less → (j ≤ (if less then k else j)) × (k ≤ (if less then k else j))
+    by true e = let h = ltb-true j k e in (omega arith, le-refl k)
+    by false e = (le-refl j, ltb-false j k e)
+
+pub higher-below : (j k : ℕ) {top : ℕ} → j ≤ top → k ≤ top → higher j k ≤ top
+higher-below j k {top} p q = by (j <? k)
+  where
+    by : (less : Bool) → (if less then k else j) ≤ top
+    by true = q
+    by false = p
+
+-- a place after a store at x: what was there, or what was stored
+pub after-store : (xs : List ℕ) (x v y : ℕ) → (getD (set xs x v) y 0 ≡ getD xs y 0) ⊎ ((y ≡ x) × (getD (set xs x v) y 0 ≡ v))
+after-store xs x v y = by (y =? x) (x <? length xs) refl refl
+  where
+    by : (same within : Bool) → (y =? x) ≡ same → (x <? length xs) ≡ within
+        → (getD (set xs x v) y 0 ≡ getD xs y 0) ⊎ ((y ≡ x) × (getD (set xs x v) y 0 ≡ v))
+    by false within e h = inl (getD-set-other xs x y v 0 (eqb-false y x e))
+    by true false e h = inl (ap (λ (l : List ℕ). getD l y 0) (set-out xs x v (ltb-false _ _ h)))
+    by true true e h =
+        let here = eqb-true y x e in
+        inr (here, rw here (getD-set-same xs x v 0 (ltb-true _ _ h)))
+
+pub grants-never-fall : GrantsNeverFall
+unfolding advanced tickEvent grantEvent driveEvent
+grants-never-fall s rec r event x =
+    each-way s rec r event (λ outcome. getD (rec .grants) x 0 ≤ getD (outcome .rec .grants) x 0)
+    (record {
+      refused = λ _. le-refl _;
+      stopped = λ _ _. le-refl _;
+      stopping = λ _ _ _. le-refl _;
+      going-on = λ _ _ _. by event;
+    })
+  where
+    asked : (is-due : Bool) (old new : Outcome Recorder) → old .rec .grants ≡ rec .grants → new .rec .grants ≡ rec .grants
+        → getD (rec .grants) x 0 ≤ getD ((if is-due then new else old) .rec .grants) x 0
+    asked true old new p q = rw q (le-refl _)
+    asked false old new p q = rw p (le-refl _)
+
+    stored : (y j : ℕ) → (getD (set (rec .grants) y (higher (getD (rec .grants) y 0) j)) x 0 ≡ getD (rec .grants) x 0)
+        ⊎ ((x ≡ y) × (getD (set (rec .grants) y (higher (getD (rec .grants) y 0) j)) x 0 ≡ higher (getD (rec .grants) y 0) j))
+        → getD (rec .grants) x 0 ≤ getD (set (rec .grants) y (higher (getD (rec .grants) y 0) j)) x 0
+    stored y j (inl e) = rw e (le-refl _)
+    stored y j (inr w) = rw (w .1, w .0) (higher-least (getD (rec .grants) y 0) j .0)
+
+    by : (event : Event) → getD (rec .grants) x 0 ≤ getD (eventOf s r event (advanced s rec r) .rec .grants) x 0
+    by tick = asked (due s rec r) _ _ refl refl
+    by (grant y j) = stored y j (after-store (rec .grants) y (higher (getD (rec .grants) y 0) j) x)
+    by drive = le-refl _

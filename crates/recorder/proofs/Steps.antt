@@ -1,0 +1,279 @@
+-- What a step that is neither refused nor stops says of the leases, by their numbers: those still open are young, those no
+-- longer open had their grants before the event, and each keeps the reading at which it was sent. Assumes nothing.
+use Prim.Native.Nat.{ℕ, suc, _+_, _-_, _≤_, _<_}
+use native.Mathlib.Omega.{arith}
+use mathlib.Core.Path.{_≡_, refl, sym, ap, _∙_}
+use mathlib.Core.Logic.{_⊎_, inl, inr, ⊎-elim}
+use mathlib.Core.Bool.{Bool, true, false}
+use mathlib.Core.List.{List, [], _∷_, _++_}
+use lib.ListN.{length, getD, set, length-append, List·getD-append}
+use lib.Seq.{getD-drop, getD-append-seam}
+use Rattle.words.specs.Tests.{if_then_else_, _<?_}
+use Rattle.words.specs.Said.{number}
+use Rattle.settings.specs.declared.Settings.{Settings}
+use Rattle.settings.specs.Settings.{η, P, refusalOf}
+use Rattle.settings.specs.Quorums.{survives}
+use Rattle.settings.proofs.Laws.{accepted-in-range}
+use Rattle.messages.specs.declared.Message.the-variants.{LeaseRequest}
+use Rattle.messages.specs.Answers.{sends as sending, says}
+use Rattle.messages.specs.Outcomes.{Outcome, _leaving_}
+use Rattle.messages.proofs.Outcomes.{same-word}
+use Rattle.recorder.specs.declared.Recorder.{Recorder}
+use Rattle.recorder.specs.Recorder.{lastSend, lastReading, leases, oldest, granted, kept, lacking, advanced, due, requesting, higher, registered, standing, tickEvent, grantEvent, driveEvent, stepOf, Event}
+use Rattle.recorder.specs.Recorder.Event.{tick, grant, drive}
+use Rattle.recorder.specs.Claims.{Sized}
+use Rattle.recorder.proofs.Formed.{Formed, has-form}
+use Rattle.recorder.proofs.Spacing.{spaced-at, ended, kept-length, kept-newest, ended-first}
+use Rattle.recorder.proofs.Room.{leases-length, leases-last, room-advanced}
+use Rattle.recorder.proofs.Placing.{placed-back}
+use Rattle.recorder.proofs.Grants.{after-store}
+use Rattle.recorder.proofs.Lacking.{ended-granted}
+use Rattle.recorder.proofs.Ways.{eventOf, Passes, Allowed, allowed, each-way}
+use Rattle.recorder.proofs.Keeping.{Good, step-good, advanced-formed, advanced-sized, leases-requesting}
+
+-- a step that goes on to its event
+pub record Going (s : Settings) (rec : Recorder) (r : ℕ) (event : Event) : Type 0 where
+  pub passes : Passes s rec r event
+  pub running : rec .stopped ≡ 0
+  pub not-lacking : lacking s rec r ≡ false
+  pub outcome : stepOf s rec r event ≡ eventOf s r event (advanced s rec r)
+
+module _ (s : Settings) (rec : Recorder) (r : ℕ) (event : Event) where
+  -- not refused, and not stopped after it
+  pub going : Passes s rec r event → stepOf s rec r event .rec .stopped ≡ 0 → Going s rec r event
+  going passes on =
+      each-way s rec r event (λ outcome. outcome .rec .stopped ≡ 0 → stepOf s rec r event ≡ outcome → Going s rec r event)
+      (record {
+        refused = λ no _ _. absurd (no passes);
+        stopped = λ _ no on _. absurd (no on);
+        stopping = λ _ _ _ on _. let z : ⊥ = omega arith in absurd z;
+        going-on = λ p running goes _ same. record { passes = p; running = running; not-lacking = goes; outcome = same };
+      })
+      on refl
+
+  -- the same by the answer: no refusal, and not *stopped*
+  pub going-by-answer : number (stepOf s rec r event .answer) ≡ 0 → (stepOf s rec r event .answer ≡ says "stopped" → ⊥) → Going s rec r event
+  unfolding number
+  going-by-answer given other =
+      each-way s rec r event
+      (λ outcome. number (outcome .answer) ≡ 0 → (outcome .answer ≡ says "stopped" → ⊥) → stepOf s rec r event ≡ outcome → Going s rec r event)
+      (record {
+        refused = λ no given _ _. absurd (no given);
+        stopped = λ _ _ _ other _. absurd (other refl);
+        stopping = λ _ _ _ _ other _. absurd (other refl);
+        going-on = λ p running goes _ _ same. record { passes = p; running = running; not-lacking = goes; outcome = same };
+      })
+      given other refl
+
+-- the record after it, where no request is sent
+pub record Quiet (s : Settings) (rec : Recorder) (r : ℕ) (outcome : Outcome Recorder) : Type 0 where
+  pub running : outcome .rec .stopped ≡ 0
+  pub reading : lastReading (outcome .rec) ≡ r
+  pub answer : outcome .answer ≡ standing s (outcome .rec)
+  pub counter : outcome .rec .counter ≡ rec .counter
+  pub last-send : lastSend (outcome .rec) ≡ lastSend rec
+  pub leases : leases (outcome .rec) ≡ kept s r (leases rec)
+
+-- and where one is
+pub record Asking (s : Settings) (rec : Recorder) (r : ℕ) (outcome : Outcome Recorder) : Type 0 where
+  pub running : outcome .rec .stopped ≡ 0
+  pub reading : lastReading (outcome .rec) ≡ r
+  pub is-due : due s rec r ≡ true
+  pub answer : outcome .answer ≡ sending (LeaseRequest (rec .counter + 1))
+  pub counter : outcome .rec .counter ≡ rec .counter + 1
+  pub last-send : lastSend (outcome .rec) ≡ r
+  pub leases : leases (outcome .rec) ≡ kept s r (leases rec) ++ (r ∷ [])
+
+module _ (s : Settings) (rec : Recorder) (r : ℕ) (ok : Allowed s rec r) (sized : Sized rec) (running : rec .stopped ≡ 0) (goes : lacking s rec r ≡ false) where
+  leases-advanced : leases (advanced s rec r) ≡ kept s r (leases rec)
+  unfolding advanced
+  leases-advanced = placed-back (kept s r (leases rec))
+
+  asking : due s (advanced s rec r) r ≡ true
+      → Asking s rec r (sending (LeaseRequest (advanced s rec r .counter + 1)) leaving requesting (advanced s rec r) r)
+  unfolding advanced
+  asking e =
+      record {
+        running = running;
+        reading = refl;
+        is-due = e;
+        answer = refl;
+        counter = refl;
+        last-send = refl;
+        leases =
+            leases-requesting s (advanced s rec r) r (ok .settings) (advanced-formed s rec r ok sized running goes)
+            (advanced-sized s rec r ok sized running goes) refl e (room-advanced s rec r (ok .settings) (has-form s rec (ok .form)) (sized .sends) e)
+            ∙ ap (λ (l : List ℕ). l ++ (r ∷ [])) leases-advanced;
+      }
+
+  quiet : Quiet s rec r (standing s (advanced s rec r) leaving advanced s rec r)
+  unfolding advanced
+  quiet = record { running = running; reading = refl; answer = refl; counter = refl; last-send = refl; leases = leases-advanced }
+
+  pub event-leaves : (event : Event) → Quiet s rec r (eventOf s r event (advanced s rec r)) ⊎ ((event ≡ tick) × Asking s rec r (eventOf s r event (advanced s rec r)))
+  unfolding advanced tickEvent grantEvent driveEvent
+  event-leaves tick = by (due s rec r) refl
+    where
+      by : (is : Bool) → due s rec r ≡ is
+          → Quiet s rec r (if is then sending (LeaseRequest (advanced s rec r .counter + 1)) leaving requesting (advanced s rec r) r else standing s (advanced s rec r) leaving advanced s rec r)
+          ⊎ ((tick ≡ tick) × Asking s rec r (if is then sending (LeaseRequest (advanced s rec r .counter + 1)) leaving requesting (advanced s rec r) r else standing s (advanced s rec r) leaving advanced s rec r))
+      by true e = inr (refl, asking e)
+      by false e = inl quiet
+  event-leaves (grant x j) = inl (record { running = running; reading = refl; answer = refl; counter = refl; last-send = refl; leases = leases-advanced })
+  event-leaves drive = inl quiet
+
+-- the lease of number i is open
+abbrev pub IsOpen : Recorder → (i : ℕ) → Type 0
+IsOpen rec i = (oldest rec ≤ i) × (i ≤ rec .counter)
+
+-- the reading at which it was sent
+abbrev pub sentAt : Recorder → (i : ℕ) → ℕ
+sentAt rec i = getD (leases rec) (i - oldest rec) 0
+
+-- the form, by the numbers of the leases
+module _ (s : Settings) (rec : Recorder) (f : Formed s rec) (sized : Sized rec) where
+  open-place : (i : ℕ) → IsOpen rec i → i - oldest rec < length (leases rec)
+  open-place i is-open = let counted = leases-length s rec (sized .sends) f in omega (arith, f .leases-counter)
+
+  -- the newest was sent at the last send
+  pub sent-last : 1 ≤ rec .counter → sentAt rec (rec .counter) ≡ lastSend rec
+  sent-last some =
+      let counted = leases-length s rec (sized .sends) f in
+      let some-lease = f .some-lease some in
+      let last : rec .counter - oldest rec ≡ length (leases rec) - 1 = omega (arith, f .leases-counter) in
+      rw last (leases-last s rec (sized .sends) f some-lease)
+
+  pub sent-apart : refusalOf s ≡ 0 → (i : ℕ) → oldest rec ≤ i → i + 1 ≤ rec .counter → sentAt rec i + η s ≤ sentAt rec (i + 1)
+  sent-apart accepted i h top =
+      let place : i + 1 - oldest rec ≡ suc (i - oldest rec) = omega arith in
+      rw place
+      (spaced-at (η s) (accepted-in-range s accepted .η-least) (leases rec) (f .apart) (i - oldest rec)
+      (rw place at (open-place (i + 1) (omega arith, top))))
+
+  pub sent-young : rec .stopped ≡ 0 → (i : ℕ) → IsOpen rec i → lastReading rec - sentAt rec i < P s
+  sent-young running i is-open = f .youth running (i - oldest rec) (open-place i is-open)
+
+module _ (s : Settings) (rec : Recorder) (r : ℕ) (event : Event) (sized : Sized rec) (on : Going s rec r event) where
+  abbrev next : Outcome Recorder
+  next = stepOf s rec r event
+
+  ok : Allowed s rec r
+  ok = allowed s rec r event (on .passes)
+
+  good : Good s (next .rec)
+  good = step-good s rec r event (record { form = ok .form; size = sized })
+
+  -- only a tick sends a request
+  pub leaves : Quiet s rec r next ⊎ ((event ≡ tick) × Asking s rec r next)
+  leaves = rw (on .outcome) (event-leaves s rec r ok sized (on .running) (on .not-lacking) event)
+
+  pub running-after : next .rec .stopped ≡ 0
+  running-after = ⊎-elim (λ q. q .running) (λ a. a .1 .running) leaves
+
+  pub reading-after : lastReading (next .rec) ≡ r
+  reading-after = ⊎-elim (λ q. q .reading) (λ a. a .1 .reading) leaves
+
+  -- the ended leases are those before the oldest that is left
+  pub oldest-after : oldest (next .rec) ≡ oldest rec + ended s r (leases rec)
+  oldest-after =
+      let counted = leases-length s rec (sized .sends) (ok .form) in
+      let counted-after = leases-length s (next .rec) (good .size .sends) (good .form) in
+      let fewer = kept-length s r (leases rec) in
+      ⊎-elim (λ q. omega (arith, ok .form .leases-counter, q .counter, ap length (q .leases)))
+      (λ a. omega (arith, ok .form .leases-counter, a .1 .counter, ap length (a .1 .leases), length-append (kept s r (leases rec)) (r ∷ [])))
+      leaves
+
+  pub young-after : (i : ℕ) → IsOpen (next .rec) i → r - sentAt (next .rec) i < P s
+  young-after i is-open = rw reading-after at (sent-young s (next .rec) (good .form) (good .size) running-after i is-open)
+
+  -- a lease no longer open: t observers had granted the next number, before the event
+  pub closed-granted : (i : ℕ) → oldest rec ≤ i → i < oldest (next .rec) → survives s (granted rec (i + 1)) ≡ true
+  closed-granted i h below =
+      let k = i - oldest rec in
+      let number : oldest rec + k ≡ i = omega arith in
+      let first-ones : k < ended s r (leases rec) = omega (arith, oldest-after) in
+      let over = ended-first s r (accepted-in-range s (ok .settings) .η-least) (leases rec) (ok .form .apart) k first-ones in
+      rw number at (ended-granted s rec r (on .not-lacking) k (omega arith) over)
+
+  -- the place of a lease that was kept
+  kept-place : (j : ℕ) → j < length (kept s r (leases rec)) → getD (leases (next .rec)) j 0 ≡ getD (kept s r (leases rec)) j 0
+  kept-place j h =
+      ⊎-elim (λ q. ap (λ (l : List ℕ). getD l j 0) (q .leases))
+      (λ a. ap (λ (l : List ℕ). getD l j 0) (a .1 .leases) ∙ List·getD-append (kept s r (leases rec)) (r ∷ []) 0 j h)
+      leaves
+
+  -- each lease keeps the reading of its send
+  pub sent-kept : (i : ℕ) → oldest (next .rec) ≤ i → i ≤ rec .counter → sentAt (next .rec) i ≡ sentAt rec i
+  sent-kept i h top =
+      let counted = leases-length s rec (sized .sends) (ok .form) in
+      let fewer = kept-length s r (leases rec) in
+      let j = i - oldest (next .rec) in
+      let there : ended s r (leases rec) + j ≡ i - oldest rec = omega (arith, oldest-after) in
+      kept-place j (omega (arith, oldest-after, ok .form .leases-counter))
+      ∙ ap (λ (l : List ℕ). getD l j 0) (kept-newest s r (accepted-in-range s (ok .settings) .η-least) (leases rec) (ok .form .apart))
+      ∙ getD-drop (ended s r (leases rec)) (leases rec) j 0
+      ∙ ap (λ (k : ℕ). getD (leases rec) k 0) there
+
+  -- and a new one has this step's
+  pub sent-now : Asking s rec r next → sentAt (next .rec) (rec .counter + 1) ≡ r
+  sent-now a =
+      let counted = leases-length s rec (sized .sends) (ok .form) in
+      let fewer = kept-length s r (leases rec) in
+      let there : rec .counter + 1 - oldest (next .rec) ≡ length (kept s r (leases rec)) = omega (arith, oldest-after, ok .form .leases-counter) in
+      rw there (ap (λ (l : List ℕ). getD l (length (kept s r (leases rec))) 0) (a .leases) ∙ getD-append-seam (kept s r (leases rec)) r [] 0)
+
+-- a place of a grant changes only by a grant from its observer, and then has that number
+pub place-after : (s : Settings) (rec : Recorder) (r : ℕ) (event : Event) (y : ℕ)
+    → (getD (stepOf s rec r event .rec .grants) y 0 ≡ getD (rec .grants) y 0)
+    ⊎ ((j : ℕ) × (event ≡ grant y j) × (getD (stepOf s rec r event .rec .grants) y 0 ≡ j))
+unfolding advanced tickEvent grantEvent driveEvent
+place-after s rec r event y =
+    each-way s rec r event
+    (λ outcome. (getD (outcome .rec .grants) y 0 ≡ getD (rec .grants) y 0) ⊎ ((j : ℕ) × (event ≡ grant y j) × (getD (outcome .rec .grants) y 0 ≡ j)))
+    (record {
+      refused = λ _. inl refl;
+      stopped = λ _ _. inl refl;
+      stopping = λ _ _ _. inl refl;
+      going-on = λ _ _ _. by event;
+    })
+  where
+    asked : (is : Bool) (old new : Outcome Recorder) → old .rec .grants ≡ rec .grants → new .rec .grants ≡ rec .grants
+        → getD ((if is then new else old) .rec .grants) y 0 ≡ getD (rec .grants) y 0
+    asked true old new p q = rw q
+    asked false old new p q = rw p
+
+    stored : (x j : ℕ) (greater : Bool) (v : ℕ) → v ≡ (if greater then j else getD (rec .grants) x 0)
+        → (getD (set (rec .grants) x v) y 0 ≡ getD (rec .grants) y 0) ⊎ ((y ≡ x) × (getD (set (rec .grants) x v) y 0 ≡ v))
+        → (getD (set (rec .grants) x v) y 0 ≡ getD (rec .grants) y 0) ⊎ ((k : ℕ) × (grant x j ≡ grant y k) × (getD (set (rec .grants) x v) y 0 ≡ k))
+    stored x j greater v is (inl e) = inl e
+    stored x j true v is (inr w) = inr (j, ap (λ (z : ℕ). grant z j) (sym (w .0)), w .1 ∙ is)
+    stored x j false v is (inr w) = inl (w .1 ∙ is ∙ ap (λ (z : ℕ). getD (rec .grants) z 0) (sym (w .0)))
+
+    by : (e : Event) → (getD (eventOf s r e (advanced s rec r) .rec .grants) y 0 ≡ getD (rec .grants) y 0)
+        ⊎ ((j : ℕ) × (e ≡ grant y j) × (getD (eventOf s r e (advanced s rec r) .rec .grants) y 0 ≡ j))
+    by tick = inl (asked (due s rec r) _ _ refl refl)
+    by (grant x j) = stored x j (getD (rec .grants) x 0 <? j) _ refl (after-store (rec .grants) x (higher (getD (rec .grants) x 0) j) y)
+    by drive = inl refl
+
+-- *running* is said only by a step that goes on, and only of a registered recorder
+running-registered : (s : Settings) (rec : Recorder) → standing s rec ≡ says "running" → registered s rec ≡ true
+unfolding standing
+running-registered s rec = by (registered s rec)
+  where
+    by : (is : Bool) → (if is then says "running" else says "unregistered") ≡ says "running" → is ≡ true
+    by true e = refl
+    by false e = let z : ⊥ = omega (arith, ap (λ (w : List ℕ). getD w 0 0) (same-word e)) in absurd z
+
+pub going-by-running : (s : Settings) (rec : Recorder) (r : ℕ) (event : Event) → stepOf s rec r event .answer ≡ says "running" → Going s rec r event
+unfolding number
+going-by-running s rec r event e =
+    going-by-answer s rec r event (ap number e) (λ stopped. omega (arith, ap (λ (w : List ℕ). getD w 0 0) (same-word (sym e ∙ stopped))))
+
+pub registered-by-running : (s : Settings) (rec : Recorder) (r : ℕ) (event : Event) → Sized rec → stepOf s rec r event .answer ≡ says "running"
+    → registered s (stepOf s rec r event .rec) ≡ true
+registered-by-running s rec r event sized e =
+    by (leaves s rec r event sized (going-by-running s rec r event e))
+  where
+    by : Quiet s rec r (stepOf s rec r event) ⊎ ((event ≡ tick) × Asking s rec r (stepOf s rec r event)) → registered s (stepOf s rec r event .rec) ≡ true
+    by (inl q) = running-registered s (stepOf s rec r event .rec) (sym (q .answer) ∙ e)
+    by (inr a) = let z : _≡_ {A = ℕ} 0 1 = cc (sym (a .1 .answer) ∙ e) in let no : ⊥ = omega arith in absurd no
