@@ -1,7 +1,7 @@
 -- The places of a record that a step is handed: 64 of leases and 16 of grants. Assumes nothing.
-use mathlib.Core.Path.{_≡_, sym, _∙_}
+use mathlib.Core.Path.{sym, _∙_}
 use mathlib.Core.List.{List}
-use lib.ListN.{length, length-map}
+use lib.ListN.{length-map}
 use mir.Val.{Val}
 use denote.Laws.{Is}
 use denote.Struct.Declared.{row}

@@ -1,6 +1,6 @@
 -- What the private parts of a step are to give. The steps' own contracts cite none of this.
 use Prim.Native.Nat.{ℕ, _≤_, _<_}
-use mathlib.Core.Bool.{Bool, true, false, not}
+use mathlib.Core.Bool.{true, false, not}
 use mathlib.Core.Path.{_≡_}
 use lib.ListN.{length}
 use Rattle.words.specs.Tests.{if_then_else_}

@@ -1,25 +1,30 @@
+-- `recorder::advance` meets its contract. Assumes nothing.
+use borrow.Author.Tests.{eq-eqb, ne-eqb}
 use borrow.Author.Needs.{needs}
+use Rattle.recorder.specs.Recorder.{advanced}
+use Rattle.recorder.specs.Parts.{advancedTo}
 use Rattle.recorder.proofs.advance.Statement.{statement}
 use Rattle.recorder.proofs.advance.Tie as tie
-use Rattle.recorder.proofs.advance.Reads as reads
-use Rattle.recorder.proofs.advance.Lts as lts
-use Rattle.recorder.proofs.sift.Reads as sift-reads
 
--- src/lib.rt:255:9
 returns : tie.Need-returns
-returns c = ?
+unfolding advancedTo
+returns c = rw (ne-eqb _ _ (c .if1 .taken))
 
--- src/lib.rt:260:9
 sift-requires : tie.Need-sift-requires
 sift-requires c κs = search needs
 
--- src/lib.rt:265:9
 returns-2 : tie.Need-returns-2
-returns-2 c = ?
+unfolding advancedTo
+returns-2 c =
+    let b = c .before .before in
+    rw (eq-eqb _ _ (b .if1 .left), ← (c .before .sift .ensures .lacks), c .if2 .taken)
 
--- src/lib.rt:250:1
 returns-3 : tie.Need-returns-3
-returns-3 c = ?
+unfolding advancedTo advanced
+returns-3 c =
+    let d = c .before .before in
+    let left = d .sift .ensures in
+    rw (eq-eqb _ _ (d .before .if1 .left), ← (left .lacks), c .before .if2 .left, left .count, left .sends)
 
 pub advance-spec : {M : Type 1} → statement M
 advance-spec = tie.close (tie.spec returns sift-requires returns-2 returns-3)

@@ -1,35 +1,65 @@
+-- `recorder::drive` meets its contract: it is refused, or goes by what `advance` gives. Assumes nothing.
+use mathlib.Core.Path.{_≡_, sym, _∙_}
+use mathlib.Core.List.{List}
 use borrow.Author.Needs.{needs}
+use Rattle.words.specs.Said.{Refusal, first}
+use Rattle.messages.specs.Answers.{said}
+use Rattle.messages.specs.Outcomes.{Outcome}
+use Rattle.messages.proofs.Outcomes.{is-refused}
+use Rattle.recorder.specs.declared.Recorder.{Recorder}
+use Rattle.recorder.specs.Recorder.{stepRefusals, accepted, driveEvent, driveOf}
+use Rattle.recorder.specs.Recorder.Event.{drive}
+use Rattle.recorder.proofs.Ways.{allowed, Allowed}
+use Rattle.recorder.proofs.Walked.{bounded, by-advance}
 use Rattle.recorder.proofs.drive.Statement.{statement}
 use Rattle.recorder.proofs.drive.Tie as tie
-use Rattle.recorder.proofs.drive.Reads as reads
-use Rattle.recorder.proofs.drive.Lts as lts
-use Rattle.recorder.proofs.advance.Reads as advance-reads
-use Rattle.recorder.proofs.step_refusal.Reads as step-refusal-reads
-use Rattle.recorder.proofs.word_of.Reads as word-of-reads
 
--- src/lib.rt:374:9
 step-refusal-requires : tie.Need-step-refusal-requires
 step-refusal-requires c κs = search needs
 
--- src/lib.rt:376:9
+-- the table of refusals, and the event that comes after the ended leases
+abbrev table : (c : tie.Start) → List Refusal
+table c = stepRefusals (c .args .s) (c .args .rec) (c .args .reading)
+
+abbrev event : (c : tie.Start) → Recorder → Outcome Recorder
+event c = driveEvent (c .args .s)
+
+refused : (c : tie.Then1) → first (table (c .before .before)) ≡ 0 → ⊥
+refused c none = c .if1 .taken (c .before .step-refusal .ensures ∙ none)
+
+-- nothing is refused
+fine : (c : tie.Else1) → first (table (c .before .before)) ≡ 0
+fine c = sym (c .before .step-refusal .ensures) ∙ c .if1 .left
+
+ok : (c : tie.Else1) → Allowed (c .before .before .args .s) (c .before .before .args .rec) (c .before .before .args .reading)
+ok c = allowed _ _ _ drive (fine c)
+
 returns : tie.Need-returns
-returns c = ?
+unfolding driveOf said
+returns c =
+    let start = c .before .before in
+    rw (c .before .step-refusal .ensures)
+    (sym (is-refused (table start) (start .args .rec) (accepted (start .args .s) (start .args .rec) (start .args .reading) (event start)) (refused c)))
 
--- src/lib.rt:381:9
 advance-requires : tie.Need-advance-requires
-advance-requires c κs = ?
+advance-requires c κs = bounded (ok c .form)
 
--- src/lib.rt:384:13
 word-of-requires : tie.Need-word-of-requires
 word-of-requires c κs = search needs
 
--- src/lib.rt:371:1
 returns-2 : tie.Need-returns-2
-returns-2 c = ?
+unfolding driveOf driveEvent
+returns-2 c =
+    let d = c .before .before .before in
+    let start = d .before .before .before in
+    sym (by-advance _ _ _ (table start) (fine (d .before)) (event start) ∙ rw (← (d .advance .ensures), c .before .if2 .taken, ← (c .word-of .ensures)))
 
--- src/lib.rt:371:1
 returns-3 : tie.Need-returns-3
-returns-3 c = ?
+unfolding driveOf said
+returns-3 c =
+    let d = c .before .before in
+    let start = d .before .before .before in
+    sym (by-advance _ _ _ (table start) (fine (d .before)) (event start) ∙ rw (← (d .advance .ensures), c .if2 .left))
 
 pub drive-spec : {M : Type 1} → statement M
 drive-spec =

@@ -1,6 +1,6 @@
 -- `recorder::granted_from` meets its contract. The loop's invariant: the marks of the observers passed are set, the rest are
 -- not. Assumes nothing.
-use Prim.Native.Nat.{ℕ, suc, _+_, _≤_, _-_}
+use Prim.Native.Nat.{suc, _+_, _≤_, _-_}
 use native.Mathlib.Omega.{arith}
 use mathlib.Core.Path.{_≡_, refl, _∙_}
 use mathlib.Core.Bool.{false}

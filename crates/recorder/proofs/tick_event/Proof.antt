@@ -1,46 +1,56 @@
+-- `recorder::tick_event` meets its contract: where a request is due there is a place for its lease. Assumes nothing.
+use Prim.Native.Nat.{_<_}
+use native.Mathlib.Omega.{arith}
+use mathlib.Core.Path.{_≡_}
+use mathlib.Core.Bool.{true}
 use borrow.Author.Needs.{needs}
+use Rattle.messages.specs.Answers.{said}
+use Rattle.recorder.specs.Recorder.{due, openLeases, leases, tickEvent}
+use Rattle.recorder.proofs.Leases.{placed-push}
 use Rattle.recorder.proofs.tick_event.Statement.{statement}
 use Rattle.recorder.proofs.tick_event.Tie as tie
-use Rattle.recorder.proofs.tick_event.Reads as reads
-use Rattle.recorder.proofs.tick_event.Lts as lts
-use Rattle.recorder.proofs.less.Reads as less-reads
-use Rattle.recorder.proofs.word_of.Reads as word-of-reads
 
--- src/lib.rt:296:44
 less-requires : tie.Need-less-requires
 less-requires c κs = search needs
 
--- src/lib.rt:299:24
+is-due : (c : tie.Then1) → due (c .before .before .before .before .args .s) (c .before .before .before .before .args .rec) (c .before .before .before .before .args .reading) ≡ true
+is-due c = rw (← (c .before .before .less .ensures)) (c .if1 .taken)
+
+place : (c : tie.Then1) → openLeases (c .before .before .before .before .args .rec) < 64
+place c = c .before .before .before .before .pre .room (is-due c)
+
 add-next : tie.Need-add-next
 add-next c = search needs
 
--- src/lib.rt:301:28
 add-next-2 : tie.Need-add-next-2
-add-next-2 c = ?
+add-next-2 c = omega (arith, place (c .before .before))
 
--- src/lib.rt:302:9
 mul-next : tie.Need-mul-next
-mul-next c = ?
+mul-next c = omega (arith, place (c .before .before))
 
--- src/lib.rt:302:9
 element-write-next : tie.Need-element-write-next
-element-write-next c = ?
+element-write-next c = omega (arith, place (c .before .before))
 
--- src/lib.rt:304:56
 add-t12 : tie.Need-add-t12
 add-t12 c = search needs
 
--- src/lib.rt:308:13
 word-of-requires : tie.Need-word-of-requires
 word-of-requires c κs = search needs
 
--- src/lib.rt:292:1
 returns : tie.Need-returns
-returns c = ?
+unfolding tickEvent said
+returns c =
+    let b = c .before .before .before in
+    let start = b .before .before .before .before in
+    let ready = start .pre in
+    let push = placed-push (leases (start .args .rec)) (start .args .reading) (omega (arith, place b)) in
+    rw (is-due b, ← push, ← (ready .sends), ready .open-leases)
 
--- src/lib.rt:292:1
 returns-2 : tie.Need-returns-2
-returns-2 c = ?
+unfolding tickEvent
+returns-2 c =
+    let b = c .before in
+    rw (← (b .before .before .less .ensures), b .if1 .left, ← (c .word-of .ensures))
 
 pub tick-event-spec : {M : Type 1} → statement M
 tick-event-spec =
