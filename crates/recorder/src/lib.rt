@@ -7,15 +7,16 @@ ghost use Rattle.words.specs.Tests.{_<?_, _≤?_};
 ghost use Rattle.words.specs.Lists.{every};
 ghost use Rattle.words.specs.Said.{first};
 ghost use Rattle.settings.specs.Quorums.{survives};
-ghost use Rattle.messages.specs.Answers.{said};
-ghost use Rattle.recorder.specs.Recorder.{isZero, spaced, hasForm, stepRefusals, grantRefusals, granted, standing, higher, tickEvent, grantEvent, tickOf, grantOf, driveOf};
+ghost use Rattle.messages.specs.Answers.{said, refuses};
+ghost use Rattle.messages.specs.Outcomes.{_leaving_};
+ghost use Rattle.recorder.specs.Recorder.{isZero, spaced, hasForm, stepRefusals, grantRefusals, granted, standing, higher, tickEvent, grantEvent, driveEvent, tickOf, grantOf, driveOf};
 ghost use Rattle.recorder.specs.Outcome.{outcome};
 ghost use Rattle.recorder.specs.Parts.{Bounded, SiftedAt, advancedTo, Roomy};
+ghost use Rattle.recorder.specs.Claims.{FormIsKept, StoppedStays, GrantsNeverFall, PlacesSuffice, NewestAreKept};
 use messages::Answer;
 use messages::Message;
 use messages::TOP_COUNTER;
 use messages::TOP_READING;
-ghost use Rattle.recorder.specs.Claims.{FormIsKept, StoppedStays, GrantsNeverFall, PlacesSuffice, NewestAreKept};
 use settings::Settings;
 use settings::contains_survival_quorum;
 
@@ -224,24 +225,24 @@ fn sift(s: Settings, rec: Recorder, reading: u64) -> Sifted
     requires { ⌜ Bounded rec ⌝ }
     ensures { λ r. ⌜ SiftedAt s rec reading r ⌝ }
 {
-    let leases = rec.open_leases as usize;
+    let open_leases = rec.open_leases as usize;
     let oldest = rec.counter - rec.open_leases + 1;
     let places = rec.sends;
-    let mut lacking = false;
+    let mut lacks = false;
     let mut count: usize = 0;
     let mut sends = [0u64; 64];
-    for i in 0..leases {
+    for i in 0..open_leases {
         let send = places[i];
         if s.recorder_lease <= less(reading, send) {
             let number = oldest + (i as u64);
-            lacking = lacking | !is_granted(s, rec, number + 1);
+            lacks = lacks | !is_granted(s, rec, number + 1);
         } else {
             sends[count] = send;
             count += 1;
         }
     }
     Sifted {
-        lacking,
+        lacking: lacks,
         count: count as u64,
         sends,
     }
@@ -259,21 +260,23 @@ fn advance(s: Settings, rec: Recorder, reading: u64) -> Advanced
         };
     }
     let left = sift(s, rec, reading);
-    let mut next = rec;
-    next.last_reading = reading;
     if left.lacking {
-        next.stopped = 1;
+        let mut halted = rec;
+        halted.stopped = 1;
+        halted.last_reading = reading;
         return Advanced {
             goes_on: false,
-            rec: next,
+            rec: halted,
         };
     }
     let places = left.sends;
-    next.open_leases = left.count;
-    next.sends = places;
+    let mut cleared = rec;
+    cleared.last_reading = reading;
+    cleared.open_leases = left.count;
+    cleared.sends = places;
     Advanced {
         goes_on: true,
-        rec: next,
+        rec: cleared,
     }
 }
 
@@ -290,20 +293,21 @@ fn word_of(s: Settings, rec: Recorder) -> Answer
     }
 }
 
+// tick: "if the counter is 0, or r - last send ≥ η, the counter rises by 1 and that LEASE-REQUEST goes to all observers".
 fn tick_event(s: Settings, rec: Recorder, reading: u64) -> Stepped
     requires { ⌜ Roomy s rec reading ⌝ }
     ensures { λ r. ⌜ outcome r ≡ tickEvent s reading rec ⌝ }
 {
     if (rec.counter == 0) | (s.interval <= less(reading, rec.last_send)) {
         let newest = rec.open_leases as usize;
-        let mut next = rec;
-        next.counter = rec.counter + 1;
-        next.last_send = reading;
-        next.open_leases = rec.open_leases + 1;
-        next.sends[newest] = reading;
+        let mut asked = rec;
+        asked.counter = rec.counter + 1;
+        asked.last_send = reading;
+        asked.open_leases = rec.open_leases + 1;
+        asked.sends[newest] = reading;
         Stepped {
             answer: Answer::Send(Message::LeaseRequest(rec.counter + 1)),
-            rec: next,
+            rec: asked,
         }
     } else {
         let answer = word_of(s, rec);
@@ -311,38 +315,57 @@ fn tick_event(s: Settings, rec: Recorder, reading: u64) -> Stepped
     }
 }
 
+// grant from an observer: "its place keeps the greater number".
 fn grant_event(s: Settings, rec: Recorder, observer: u64, number: u64) -> Stepped
     requires { ⌜ observer < 16 ⌝ }
     ensures { λ r. ⌜ outcome r ≡ grantEvent s observer number rec ⌝ }
 {
     let grants = rec.grants;
     let place = observer as usize;
-    let mut next = rec;
-    next.grants[place] = higher_of(grants[place], number);
-    let answer = word_of(s, next);
-    Stepped { answer, rec: next }
+    let mut raised = rec;
+    raised.grants[place] = higher_of(grants[place], number);
+    let answer = word_of(s, raised);
+    Stepped {
+        answer,
+        rec: raised,
+    }
 }
 
-// ---- Steps
+// drive: nothing.
+fn drive_event(s: Settings, rec: Recorder) -> Stepped
+    ensures { λ r. ⌜ outcome r ≡ driveEvent s rec ⌝ }
+{
+    let answer = word_of(s, rec);
+    Stepped { answer, rec }
+}
+
+// ---- Steps: refusals first, then what every accepted step does, only then the event
+
+// "A refusal returns its number and the record as it came."
+fn refuse(rec: Recorder, number: u32) -> Stepped
+    ensures { λ r. ⌜ outcome r ≡ (refuses number leaving rec) ⌝ }
+{
+    Stepped {
+        answer: Answer::Refused(number),
+        rec,
+    }
+}
 
 pub fn tick(s: Settings, rec: Recorder, reading: u64) -> Stepped
     ensures { λ r. ⌜ outcome r ≡ tickOf s rec reading ⌝ }
 {
     let refused = step_refusal(s, rec, reading);
     if refused != 0 {
-        return Stepped {
-            answer: Answer::Refused(refused),
-            rec,
-        };
+        return refuse(rec, refused);
     }
-    let ready = advance(s, rec, reading);
-    let next = ready.rec;
-    if ready.goes_on {
-        tick_event(s, next, reading)
+    let at_tick = advance(s, rec, reading);
+    let asking = at_tick.rec;
+    if at_tick.goes_on {
+        tick_event(s, asking, reading)
     } else {
         Stepped {
             answer: Answer::Stopped,
-            rec: next,
+            rec: asking,
         }
     }
 }
@@ -352,19 +375,16 @@ pub fn grant(s: Settings, rec: Recorder, reading: u64, observer: u64, number: u6
 {
     let refused = grant_refusal(s, rec, reading, observer, number);
     if refused != 0 {
-        return Stepped {
-            answer: Answer::Refused(refused),
-            rec,
-        };
+        return refuse(rec, refused);
     }
-    let ready = advance(s, rec, reading);
-    let next = ready.rec;
-    if ready.goes_on {
-        grant_event(s, next, observer, number)
+    let at_grant = advance(s, rec, reading);
+    let granting = at_grant.rec;
+    if at_grant.goes_on {
+        grant_event(s, granting, observer, number)
     } else {
         Stepped {
             answer: Answer::Stopped,
-            rec: next,
+            rec: granting,
         }
     }
 }
@@ -374,20 +394,16 @@ pub fn drive(s: Settings, rec: Recorder, reading: u64) -> Stepped
 {
     let refused = step_refusal(s, rec, reading);
     if refused != 0 {
-        return Stepped {
-            answer: Answer::Refused(refused),
-            rec,
-        };
+        return refuse(rec, refused);
     }
-    let ready = advance(s, rec, reading);
-    let next = ready.rec;
-    if ready.goes_on {
-        let answer = word_of(s, next);
-        Stepped { answer, rec: next }
+    let at_drive = advance(s, rec, reading);
+    let driving = at_drive.rec;
+    if at_drive.goes_on {
+        drive_event(s, driving)
     } else {
         Stepped {
             answer: Answer::Stopped,
-            rec: next,
+            rec: driving,
         }
     }
 }

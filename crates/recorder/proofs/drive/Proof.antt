@@ -34,25 +34,29 @@ fine c = sym (c .before .step-refusal .ensures) ∙ c .if1 .left
 ok : (c : tie.Else1) → Allowed (c .before .before .args .s) (c .before .before .args .rec) (c .before .before .args .reading)
 ok c = allowed _ _ _ drive (fine c)
 
+refuse-requires : tie.Need-refuse-requires
+refuse-requires c κs = search needs
+
 returns : tie.Need-returns
-unfolding driveOf said
+unfolding driveOf
 returns c =
-    let start = c .before .before in
-    rw (c .before .step-refusal .ensures)
-    (sym (is-refused (table start) (start .args .rec) (accepted (start .args .s) (start .args .rec) (start .args .reading) (event start)) (refused c)))
+    let start = c .before .before .before in
+    c .refuse .ensures
+    ∙ rw (c .before .before .step-refusal .ensures)
+    (sym (is-refused (table start) (start .args .rec) (accepted (start .args .s) (start .args .rec) (start .args .reading) (event start)) (refused (c .before))))
 
 advance-requires : tie.Need-advance-requires
 advance-requires c κs = bounded (ok c .form)
 
-word-of-requires : tie.Need-word-of-requires
-word-of-requires c κs = search needs
+drive-event-requires : tie.Need-drive-event-requires
+drive-event-requires c κs = search needs
 
 returns-2 : tie.Need-returns-2
-unfolding driveOf driveEvent
+unfolding driveOf
 returns-2 c =
     let d = c .before .before .before in
     let start = d .before .before .before in
-    sym (by-advance _ _ _ (table start) (fine (d .before)) (event start) ∙ rw (← (d .advance .ensures), c .before .if2 .taken, ← (c .word-of .ensures)))
+    sym (by-advance _ _ _ (table start) (fine (d .before)) (event start) ∙ rw (← (d .advance .ensures), c .before .if2 .taken, ← (c .drive-event .ensures)))
 
 returns-3 : tie.Need-returns-3
 unfolding driveOf said
@@ -64,4 +68,4 @@ returns-3 c =
 pub drive-spec : {M : Type 1} → statement M
 drive-spec =
     tie.close
-    (tie.spec step-refusal-requires returns advance-requires word-of-requires returns-2 returns-3)
+    (tie.spec step-refusal-requires refuse-requires returns advance-requires drive-event-requires returns-2 returns-3)

@@ -36,12 +36,16 @@ fine c = sym (c .before .grant-refusal .ensures) ∙ c .if1 .left
 ok : (c : tie.Else1) → Allowed (c .before .before .args .s) (c .before .before .args .rec) (c .before .before .args .reading)
 ok c = allowed _ _ _ (grant (c .before .before .args .observer) (c .before .before .args .number)) (fine c)
 
+refuse-requires : tie.Need-refuse-requires
+refuse-requires c κs = search needs
+
 returns : tie.Need-returns
-unfolding grantOf said
+unfolding grantOf
 returns c =
-    let start = c .before .before in
-    rw (c .before .grant-refusal .ensures)
-    (sym (is-refused (table start) (start .args .rec) (accepted (start .args .s) (start .args .rec) (start .args .reading) (event start)) (refused c)))
+    let start = c .before .before .before in
+    c .refuse .ensures
+    ∙ rw (c .before .before .grant-refusal .ensures)
+    (sym (is-refused (table start) (start .args .rec) (accepted (start .args .s) (start .args .rec) (start .args .reading) (event start)) (refused (c .before))))
 
 advance-requires : tie.Need-advance-requires
 advance-requires c κs = bounded (ok c .form)
@@ -72,6 +76,7 @@ grant-spec =
     tie.close
     (tie.spec
     grant-refusal-requires
+    refuse-requires
     returns
     advance-requires
     grant-event-requires

@@ -13,11 +13,11 @@ array-read-higher-of c = search needs
 higher-of-requires : tie.Need-higher-of-requires
 higher-of-requires c κs = search needs
 
-mul-next : tie.Need-mul-next
-mul-next c = search needs
+mul-raised : tie.Need-mul-raised
+mul-raised c = search needs
 
-element-write-next : tie.Need-element-write-next
-element-write-next c = search needs
+element-write-raised : tie.Need-element-write-raised
+element-write-raised c = search needs
 
 word-of-requires : tie.Need-word-of-requires
 word-of-requires c κs = search needs
@@ -33,7 +33,7 @@ grant-event-spec =
     mul-higher-of
     array-read-higher-of
     higher-of-requires
-    mul-next
-    element-write-next
+    mul-raised
+    element-write-raised
     word-of-requires
     returns)

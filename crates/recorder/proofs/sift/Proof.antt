@@ -12,22 +12,22 @@ use lib.Seq.{getD-take, length-take-le, take-all}
 use borrow.Author.Tests.{le-leb, lt-leb}
 use borrow.Author.Needs.{needs}
 use Rattle.settings.specs.Settings.{P}
-use Rattle.recorder.specs.Recorder.{lacking, lackingFrom, kept, placed, oldest, leases as openOf}
+use Rattle.recorder.specs.Recorder.{lacking, lackingFrom, kept, placed, oldest, leases}
 use Rattle.recorder.proofs.Leases.{lacking-ended, lacking-kept, lacking-done, kept-ended, kept-young, placed-push}
 use Rattle.recorder.proofs.Places.{sized}
 use Rattle.recorder.proofs.sift.Statement.{statement}
 use Rattle.recorder.proofs.sift.Tie as tie
 
 abbrev Inv-loop : tie.InvT-loop
-Inv-loop s rec reading leases oldest places lacking₀ count₀ sends₀ i₀ lacking count sends i =
+Inv-loop s rec reading open-leases oldest places lacks₀ count₀ sends₀ i₀ lacks count sends i =
     (i ≤ rec .«open_leases»)
     × (count ≤ i)
-    × (Rattle.recorder.specs.Recorder.lacking s rec reading ≡ (lacking || lackingFrom s rec reading (oldest + i) (drop i (openOf rec))))
-    × (count ≡ length (kept s reading (take i (openOf rec))))
-    × (sends ≡ placed (kept s reading (take i (openOf rec))))
+    × (lacking s rec reading ≡ (lacks || lackingFrom s rec reading (oldest + i) (drop i (leases rec))))
+    × (count ≡ length (kept s reading (take i (leases rec))))
+    × (sends ≡ placed (kept s reading (take i (leases rec))))
 
 abbrev μ-loop : tie.MeasureT-loop
-μ-loop s rec reading leases oldest places lacking₀ count₀ sends₀ i₀ lacking count sends i = rec .«open_leases» - i
+μ-loop s rec reading open-leases oldest places lacks₀ count₀ sends₀ i₀ lacks count sends i = rec .«open_leases» - i
 
 sub-oldest : tie.Need-sub-oldest Inv-loop μ-loop
 sub-oldest c = omega arith
@@ -36,7 +36,7 @@ add-oldest : tie.Need-add-oldest Inv-loop μ-loop
 add-oldest c = omega arith
 
 -- all of the open leases are in the places
-whole : (c : tie.Start Inv-loop μ-loop) → length (openOf (c .args .rec)) ≡ c .args .rec .«open_leases»
+whole : (c : tie.Start Inv-loop μ-loop) → length (leases (c .args .rec)) ≡ c .args .rec .«open_leases»
 whole c =
     let full = sized (c .args .rec) _ (c .good .1 .0) in
     length-take-le (c .args .rec .«open_leases») (c .args .rec .sends) (omega (arith, full .sends, c .pre .places))
@@ -84,7 +84,7 @@ loop-again c =
     let l = c .before .before .before .before in
     let a = l .before .before .before .args in
     let i = l .loop .i in
-    let xs = openOf (a .rec) in
+    let xs = leases (a .rec) in
     let in-list : i < length xs = omega (arith, whole (l .before .before .before)) in
     let here = getD-take (a .rec .«open_leases») (a .rec .sends) i 0 (omega arith) in
     let ks = kept (a .s) (a .reading) (take i xs) in
@@ -94,7 +94,7 @@ loop-again c =
     let same = kept-ended (a .s) (a .reading) xs i in-list ended in (
       omega arith,
       omega (arith, w .3),
-      rw (w .2, w .1 .ensures) (lacking-ended (a .s) (a .rec) (a .reading) (oldest (a .rec)) xs i (l .loop .lacking) in-list ended (l .loop .inv .2)),
+      rw (w .2, w .1 .ensures) (lacking-ended (a .s) (a .rec) (a .reading) (oldest (a .rec)) xs i (l .loop .lacks) in-list ended (l .loop .inv .2)),
       rw same (w .3 ∙ l .loop .inv .3),
       rw same (w .4 ∙ l .loop .inv .4),
     ))
@@ -104,7 +104,7 @@ loop-again c =
     let place : length ks < 64 = omega arith in (
       omega arith,
       omega (arith, w .2),
-      rw (w .1) (lacking-kept (a .s) (a .rec) (a .reading) (oldest (a .rec)) xs i (l .loop .lacking) in-list young (l .loop .inv .2)),
+      rw (w .1) (lacking-kept (a .s) (a .rec) (a .reading) (oldest (a .rec)) xs i (l .loop .lacks) in-list young (l .loop .inv .2)),
       rw (more, length-append ks (getD xs i 0 ∷ [])) (omega (arith, w .2)),
       w .3 ∙ rw (more, l .loop .inv .4, l .loop .inv .3, ← here) (placed-push ks (getD xs i 0) place),
     ))
@@ -115,9 +115,9 @@ returns c =
     let l = c .before in
     let start = l .before .before .before in
     let a = start .args in
-    let all = take-all (l .loop .i) (openOf (a .rec)) (omega (arith, whole start)) in
+    let all = take-all (l .loop .i) (leases (a .rec)) (omega (arith, whole start)) in
     record {
-      lacks = lacking-done (a .s) (a .rec) (a .reading) (oldest (a .rec)) (openOf (a .rec)) (l .loop .i) (l .loop .lacking) (omega (arith, whole start)) (l .loop .inv .2);
+      lacks = lacking-done (a .s) (a .rec) (a .reading) (oldest (a .rec)) (leases (a .rec)) (l .loop .i) (l .loop .lacks) (omega (arith, whole start)) (l .loop .inv .2);
       count = l .loop .inv .3 ∙ rw all;
       sends = l .loop .inv .4 ∙ rw all;
     }

@@ -36,12 +36,16 @@ fine c = sym (c .before .step-refusal .ensures) ∙ c .if1 .left
 ok : (c : tie.Else1) → Allowed (c .before .before .args .s) (c .before .before .args .rec) (c .before .before .args .reading)
 ok c = allowed _ _ _ tick (fine c)
 
+refuse-requires : tie.Need-refuse-requires
+refuse-requires c κs = search needs
+
 returns : tie.Need-returns
-unfolding tickOf said
+unfolding tickOf
 returns c =
-    let start = c .before .before in
-    rw (c .before .step-refusal .ensures)
-    (sym (is-refused (table start) (start .args .rec) (accepted (start .args .s) (start .args .rec) (start .args .reading) (event start)) (refused c)))
+    let start = c .before .before .before in
+    c .refuse .ensures
+    ∙ rw (c .before .before .step-refusal .ensures)
+    (sym (is-refused (table start) (start .args .rec) (accepted (start .args .s) (start .args .rec) (start .args .reading) (event start)) (refused (c .before))))
 
 advance-requires : tie.Need-advance-requires
 advance-requires c κs = bounded (ok c .form)
@@ -73,6 +77,7 @@ tick-spec =
     tie.close
     (tie.spec
     step-refusal-requires
+    refuse-requires
     returns
     advance-requires
     tick-event-requires

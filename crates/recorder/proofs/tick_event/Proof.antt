@@ -19,17 +19,17 @@ is-due c = rw (← (c .before .before .less .ensures)) (c .if1 .taken)
 place : (c : tie.Then1) → openLeases (c .before .before .before .before .args .rec) < 64
 place c = c .before .before .before .before .pre .room (is-due c)
 
-add-next : tie.Need-add-next
-add-next c = search needs
+add-asked : tie.Need-add-asked
+add-asked c = search needs
 
-add-next-2 : tie.Need-add-next-2
-add-next-2 c = omega (arith, place (c .before .before))
+add-asked-2 : tie.Need-add-asked-2
+add-asked-2 c = omega (arith, place (c .before .before))
 
-mul-next : tie.Need-mul-next
-mul-next c = omega (arith, place (c .before .before))
+mul-asked : tie.Need-mul-asked
+mul-asked c = omega (arith, place (c .before .before))
 
-element-write-next : tie.Need-element-write-next
-element-write-next c = omega (arith, place (c .before .before))
+element-write-asked : tie.Need-element-write-asked
+element-write-asked c = omega (arith, place (c .before .before))
 
 add-t12 : tie.Need-add-t12
 add-t12 c = search needs
@@ -57,10 +57,10 @@ tick-event-spec =
     tie.close
     (tie.spec
     less-requires
-    add-next
-    add-next-2
-    mul-next
-    element-write-next
+    add-asked
+    add-asked-2
+    mul-asked
+    element-write-asked
     add-t12
     word-of-requires
     returns
