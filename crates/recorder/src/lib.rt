@@ -345,10 +345,8 @@ fn drive_event(s: Settings, rec: Recorder) -> Stepped
 fn refuse(rec: Recorder, number: u32) -> Stepped
     ensures { λ r. ⌜ outcome r ≡ (refuses number leaving rec) ⌝ }
 {
-    Stepped {
-        answer: Answer::Refused(number),
-        rec,
-    }
+    let answer = Answer::Refused(number);
+    Stepped { answer, rec }
 }
 
 pub fn tick(s: Settings, rec: Recorder, reading: u64) -> Stepped
