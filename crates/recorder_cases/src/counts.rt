@@ -1,5 +1,4 @@
 // One observer, as many survivors as observers, and sixteen of each.
-ghost use Prim.Native.Nat.{_≤_};
 use crate::steps;
 use recorder::Recorder;
 use settings::Settings;

@@ -1,5 +1,4 @@
 // Several leases ended at once, after a freeze, and more requests than there are places.
-ghost use Prim.Native.Nat.{_≤_};
 use crate::show;
 use crate::steps;
 use recorder::Recorder;
@@ -16,9 +15,7 @@ fn sixty_four_open() -> Settings {
 }
 
 // One request at each reading from 0 on, granted by observer 0 or by nobody.
-fn requests(s: Settings, count: u64, granted: bool) -> Recorder
-    requires { ⌜ count ≤ 1000 ⌝ }
-{
+fn requests(s: Settings, count: u64, granted: bool) -> Recorder {
     let mut rec = steps::fresh();
     for i in 0..count {
         let sent = recorder::tick(s, rec, i);
