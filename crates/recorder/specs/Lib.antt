@@ -1,3 +1,5 @@
 -- Document 01, "Recorder".
 pub mod Recorder
+pub mod Outcome
+pub mod Parts
 pub mod Claims

@@ -1,5 +1,24 @@
 // The recorder: the party that drives while its leases hold. Serves document 01, "Recorder".
+ghost use mathlib.Core.Path.{_≡_};
+ghost use mathlib.Core.List.{map};
+ghost use Prim.Native.Nat.{_-_, _≤_, _<_};
+ghost use lib.ListN.{take, drop};
+ghost use Rattle.words.specs.Tests.{_<?_, _≤?_};
+ghost use Rattle.words.specs.Lists.{every};
+ghost use Rattle.words.specs.Said.{first};
+ghost use Rattle.settings.specs.Quorums.{survives};
+ghost use Rattle.messages.specs.Answers.{said, refuses};
+ghost use Rattle.messages.specs.Outcomes.{_leaving_};
+ghost use Rattle.recorder.specs.Recorder.{isZero, spaced, hasForm, stepRefusals, grantRefusals, granted, standing, higher, tickEvent, grantEvent, driveEvent, tickOf, grantOf, driveOf};
+ghost use Rattle.recorder.specs.Outcome.{outcome};
+ghost use Rattle.recorder.specs.Parts.{Bounded, SiftedAt, advancedTo, Roomy};
 ghost use Rattle.recorder.specs.Claims.{FormIsKept, StoppedStays, GrantsNeverFall, PlacesSuffice, NewestAreKept};
+use messages::Answer;
+use messages::Message;
+use messages::TOP_COUNTER;
+use messages::TOP_READING;
+use settings::Settings;
+use settings::contains_survival_quorum;
 
 // The record, in 01's order: 85 numbers.
 pub struct Recorder {
@@ -14,6 +33,377 @@ pub struct Recorder {
     pub sends: [u64; 64],
     // highest grant from each observer
     pub grants: [u64; 16],
+}
+
+// A step's answer, and the record that it leaves.
+pub struct Stepped {
+    pub answer: Answer,
+    pub rec: Recorder,
+}
+
+// The open leases at a reading: does one that has ended lack grants, and which have not ended.
+struct Sifted {
+    lacking: bool,
+    count: u64,
+    sends: [u64; 64],
+}
+
+// The record at a step's event, or that of a recorder that has stopped.
+struct Advanced {
+    goes_on: bool,
+    rec: Recorder,
+}
+
+// x - y, or 0 where y is the greater: no record, whatever its numbers, makes a difference wrap.
+fn less(x: u64, y: u64) -> u64
+    ensures { λ r. ⌜ r ≡ x - y ⌝ }
+{
+    if y <= x { x - y } else { 0 }
+}
+
+fn higher_of(x: u64, y: u64) -> u64
+    ensures { λ r. ⌜ r ≡ higher x y ⌝ }
+{
+    if x < y { y } else { x }
+}
+
+// ---- Form
+
+// Are the places of leases from `first` on unused?
+fn sends_unused(sends: [u64; 64], first: usize) -> bool
+    ensures { λ r. ⌜ r ≡ every isZero (drop first sends) ⌝ }
+{
+    let mut ok = true;
+    let mut i = first;
+    while i < 64 {
+        ok = ok & (sends[i] == 0);
+        i += 1;
+    }
+    ok
+}
+
+// Are the places of grants from `first` on unused?
+fn grants_unused(grants: [u64; 16], first: usize) -> bool
+    ensures { λ r. ⌜ r ≡ every isZero (drop first grants) ⌝ }
+{
+    let mut ok = true;
+    let mut i = first;
+    while i < 16 {
+        ok = ok & (grants[i] == 0);
+        i += 1;
+    }
+    ok
+}
+
+fn grants_at_most(grants: [u64; 16], counter: u64) -> bool
+    ensures { λ r. ⌜ r ≡ every (λ grant. grant ≤? counter) grants ⌝ }
+{
+    let mut ok = true;
+    for i in 0..16 {
+        ok = ok & (grants[i] <= counter);
+    }
+    ok
+}
+
+// Are the first `count` send readings at least `interval` apart?
+fn sends_apart(sends: [u64; 64], count: usize, interval: u64) -> bool
+    requires { ⌜ count ≤ 64 ⌝ }
+    ensures { λ r. ⌜ r ≡ spaced interval (take count sends) ⌝ }
+{
+    let mut ok = true;
+    let mut i: usize = 0;
+    while i + 1 < count {
+        ok = ok & (interval <= less(sends[i + 1], sends[i]));
+        i += 1;
+    }
+    ok
+}
+
+// Are the first `count` leases younger than `lease` at a reading?
+fn sends_young(sends: [u64; 64], count: usize, lease: u64, reading: u64) -> bool
+    requires { ⌜ count ≤ 64 ⌝ }
+    ensures { λ r. ⌜ r ≡ every (λ send. reading - send <? lease) (take count sends) ⌝ }
+{
+    let mut ok = true;
+    for i in 0..count {
+        ok = ok & (less(reading, sends[i]) < lease);
+    }
+    ok
+}
+
+// 01's form, in its order. Where the counter is 0 the places' own conditions leave only the numbers to be seen.
+fn has_form(s: Settings, rec: Recorder) -> bool
+    ensures { λ r. ⌜ r ≡ hasForm s rec ⌝ }
+{
+    if 64 < rec.open_leases {
+        return false;
+    }
+    let sends = rec.sends;
+    let grants = rec.grants;
+    let count = rec.open_leases as usize;
+    let newest = less(rec.open_leases, 1) as usize;
+    (rec.counter <= TOP_COUNTER)
+        & (rec.stopped <= 1)
+        & ((rec.counter != 0)
+            | ((rec.stopped == 0) & (rec.last_send == 0) & (rec.open_leases == 0)))
+        & sends_unused(sends, count)
+        & grants_unused(grants, s.observers as usize)
+        & grants_at_most(grants, rec.counter)
+        & ((rec.counter == 0) | (1 <= rec.open_leases))
+        & (rec.open_leases <= rec.counter)
+        & sends_apart(sends, count, s.interval)
+        & ((rec.counter == 0) | (sends[newest] == rec.last_send))
+        & (less(rec.counter, 1) <= rec.last_send)
+        & (rec.last_send <= rec.last_reading)
+        & (rec.last_reading <= TOP_READING)
+        & ((rec.stopped != 0) | sends_young(sends, count, s.recorder_lease, rec.last_reading))
+}
+
+// ---- Refusals
+
+// The number 1 to 4 of the refusal, or 0.
+fn step_refusal(s: Settings, rec: Recorder, reading: u64) -> u32
+    ensures { λ r. ⌜ r ≡ first (stepRefusals s rec reading) ⌝ }
+{
+    let number = settings::refusal(s);
+    if number != 0 {
+        return number;
+    }
+    if !has_form(s, rec) {
+        return 3;
+    }
+    if (TOP_READING < reading) | (reading < rec.last_reading) {
+        4
+    } else {
+        0
+    }
+}
+
+// The number 1 to 6 of the refusal of a grant, or 0.
+fn grant_refusal(s: Settings, rec: Recorder, reading: u64, observer: u64, number: u64) -> u32
+    ensures { λ r. ⌜ r ≡ first (grantRefusals s rec reading observer number) ⌝ }
+{
+    let refused = step_refusal(s, rec, reading);
+    if refused != 0 {
+        return refused;
+    }
+    if s.observers <= observer {
+        return 5;
+    }
+    if (number == 0) | (rec.counter < number) {
+        6
+    } else {
+        0
+    }
+}
+
+// ---- Every accepted step
+
+// The observers that have granted `number` or higher.
+fn granted_from(grants: [u64; 16], number: u64) -> [bool; 16]
+    ensures { λ r. ⌜ r ≡ map (λ grant. number ≤? grant) grants ⌝ }
+{
+    let mut set = [false; 16];
+    for i in 0..16 {
+        set[i] = number <= grants[i];
+    }
+    set
+}
+
+// Has a survival quorum granted `number` or higher?
+fn is_granted(s: Settings, rec: Recorder, number: u64) -> bool
+    ensures { λ r. ⌜ r ≡ survives s (granted rec number) ⌝ }
+{
+    let grants = rec.grants;
+    let set = granted_from(grants, number);
+    contains_survival_quorum(s, set)
+}
+
+// Each open lease i with reading - send ≥ P has ended: lease i + 1 must then have its grants. One pass; a quorum is counted
+// only for leases that have ended.
+fn sift(s: Settings, rec: Recorder, reading: u64) -> Sifted
+    requires { ⌜ Bounded rec ⌝ }
+    ensures { λ r. ⌜ SiftedAt s rec reading r ⌝ }
+{
+    let open_leases = rec.open_leases as usize;
+    let oldest = rec.counter - rec.open_leases + 1;
+    let places = rec.sends;
+    let mut lacks = false;
+    let mut count: usize = 0;
+    let mut sends = [0u64; 64];
+    for i in 0..open_leases {
+        let send = places[i];
+        if s.recorder_lease <= less(reading, send) {
+            let number = oldest + (i as u64);
+            lacks = lacks | !is_granted(s, rec, number + 1);
+        } else {
+            sends[count] = send;
+            count += 1;
+        }
+    }
+    Sifted {
+        lacking: lacks,
+        count: count as u64,
+        sends,
+    }
+}
+
+// Stopped first, then the ended leases: only a step that goes on from here comes to its event.
+fn advance(s: Settings, rec: Recorder, reading: u64) -> Advanced
+    requires { ⌜ Bounded rec ⌝ }
+    ensures { λ r. ⌜ r ≡ advancedTo s rec reading ⌝ }
+{
+    if rec.stopped != 0 {
+        return Advanced {
+            goes_on: false,
+            rec,
+        };
+    }
+    let left = sift(s, rec, reading);
+    if left.lacking {
+        let mut halted = rec;
+        halted.stopped = 1;
+        halted.last_reading = reading;
+        return Advanced {
+            goes_on: false,
+            rec: halted,
+        };
+    }
+    let places = left.sends;
+    let mut cleared = rec;
+    cleared.last_reading = reading;
+    cleared.open_leases = left.count;
+    cleared.sends = places;
+    Advanced {
+        goes_on: true,
+        rec: cleared,
+    }
+}
+
+// ---- Events
+
+// The answer where no message is sent.
+fn word_of(s: Settings, rec: Recorder) -> Answer
+    ensures { λ r. ⌜ said r ≡ standing s rec ⌝ }
+{
+    if is_granted(s, rec, 1) {
+        Answer::Running
+    } else {
+        Answer::Unregistered
+    }
+}
+
+// tick: "if the counter is 0, or r - last send ≥ η, the counter rises by 1 and that LEASE-REQUEST goes to all observers".
+fn tick_event(s: Settings, rec: Recorder, reading: u64) -> Stepped
+    requires { ⌜ Roomy s rec reading ⌝ }
+    ensures { λ r. ⌜ outcome r ≡ tickEvent s reading rec ⌝ }
+{
+    if (rec.counter == 0) | (s.interval <= less(reading, rec.last_send)) {
+        let newest = rec.open_leases as usize;
+        let mut asked = rec;
+        asked.counter = rec.counter + 1;
+        asked.last_send = reading;
+        asked.open_leases = rec.open_leases + 1;
+        asked.sends[newest] = reading;
+        Stepped {
+            answer: Answer::Send(Message::LeaseRequest(rec.counter + 1)),
+            rec: asked,
+        }
+    } else {
+        let answer = word_of(s, rec);
+        Stepped { answer, rec }
+    }
+}
+
+// grant from an observer: "its place keeps the greater number".
+fn grant_event(s: Settings, rec: Recorder, observer: u64, number: u64) -> Stepped
+    requires { ⌜ observer < 16 ⌝ }
+    ensures { λ r. ⌜ outcome r ≡ grantEvent s observer number rec ⌝ }
+{
+    let grants = rec.grants;
+    let place = observer as usize;
+    let mut raised = rec;
+    raised.grants[place] = higher_of(grants[place], number);
+    let answer = word_of(s, raised);
+    Stepped {
+        answer,
+        rec: raised,
+    }
+}
+
+// drive: nothing.
+fn drive_event(s: Settings, rec: Recorder) -> Stepped
+    ensures { λ r. ⌜ outcome r ≡ driveEvent s rec ⌝ }
+{
+    let answer = word_of(s, rec);
+    Stepped { answer, rec }
+}
+
+// ---- Steps: refusals first, then what every accepted step does, only then the event
+
+// "A refusal returns its number and the record as it came."
+fn refuse(rec: Recorder, number: u32) -> Stepped
+    ensures { λ r. ⌜ outcome r ≡ (refuses number leaving rec) ⌝ }
+{
+    let answer = Answer::Refused(number);
+    Stepped { answer, rec }
+}
+
+pub fn tick(s: Settings, rec: Recorder, reading: u64) -> Stepped
+    ensures { λ r. ⌜ outcome r ≡ tickOf s rec reading ⌝ }
+{
+    let refused = step_refusal(s, rec, reading);
+    if refused != 0 {
+        return refuse(rec, refused);
+    }
+    let at_tick = advance(s, rec, reading);
+    let asking = at_tick.rec;
+    if at_tick.goes_on {
+        tick_event(s, asking, reading)
+    } else {
+        Stepped {
+            answer: Answer::Stopped,
+            rec: asking,
+        }
+    }
+}
+
+pub fn grant(s: Settings, rec: Recorder, reading: u64, observer: u64, number: u64) -> Stepped
+    ensures { λ r. ⌜ outcome r ≡ grantOf s rec reading observer number ⌝ }
+{
+    let refused = grant_refusal(s, rec, reading, observer, number);
+    if refused != 0 {
+        return refuse(rec, refused);
+    }
+    let at_grant = advance(s, rec, reading);
+    let granting = at_grant.rec;
+    if at_grant.goes_on {
+        grant_event(s, granting, observer, number)
+    } else {
+        Stepped {
+            answer: Answer::Stopped,
+            rec: granting,
+        }
+    }
+}
+
+pub fn drive(s: Settings, rec: Recorder, reading: u64) -> Stepped
+    ensures { λ r. ⌜ outcome r ≡ driveOf s rec reading ⌝ }
+{
+    let refused = step_refusal(s, rec, reading);
+    if refused != 0 {
+        return refuse(rec, refused);
+    }
+    let at_drive = advance(s, rec, reading);
+    let driving = at_drive.rec;
+    if at_drive.goes_on {
+        drive_event(s, driving)
+    } else {
+        Stepped {
+            answer: Answer::Stopped,
+            rec: driving,
+        }
+    }
 }
 
 // What every step keeps, whatever its event: the claims stand in specs/Claims.antt.

@@ -1,0 +1,12 @@
+-- `recorder::refuse` meets its contract. Assumes nothing.
+use mathlib.Core.Path.{refl}
+use Rattle.messages.specs.Answers.{said}
+use Rattle.recorder.proofs.refuse.Statement.{statement}
+use Rattle.recorder.proofs.refuse.Tie as tie
+
+returns : tie.Need-returns
+unfolding said
+returns c = refl
+
+pub refuse-spec : {M : Type 1} → statement M
+refuse-spec = tie.close (tie.spec returns)
