@@ -14,9 +14,9 @@ ghost use lib.ListN.{drop};
 ghost use Rattle.words.specs.Lists.{every, some};
 ghost use Rattle.words.specs.Said.{first, _when_};
 ghost use Rattle.settings.specs.Settings.{window, refusals};
-ghost use Rattle.messages.specs.Answers.{said, says};
+ghost use Rattle.messages.specs.Answers.{said, says, refuses};
 ghost use Rattle.messages.specs.Outcomes.{_leaving_};
-ghost use Rattle.standby.specs.Standby.{isDead, isUnused, goodPlace, hasForm, keptMarks, noPlaces, closed, atReading, greatest, saysDead, verdict, beginRefusals, ackRefusals, isLate, afterKeeping, beginOf, ackOf, pollOf};
+ghost use Rattle.standby.specs.Standby.{isDead, isUnused, goodPlace, hasForm, keptMarks, noPlaces, closed, atReading, greatest, saysDead, verdict, beginRefusals, ackRefusals, pollRefusals, isLate, afterKeeping, beginOf, ackOf, pollOf};
 ghost use Rattle.standby.specs.Outcome.{outcome};
 ghost use Rattle.standby.specs.Claims.{FormIsKept, ClosedIsZero, VerdictsHold, DeadInWindow, KeptStays};
 
@@ -75,7 +75,7 @@ fn all_good(places: [Place; 16]) -> bool
     ok
 }
 
-// Are the places from `start` on unused? None is, where `start` is past the end.
+// Are the places from `start` on unused? So they are where none is left.
 fn unused_from(places: [Place; 16], start: usize) -> bool
     ensures { λ r. ⌜ r ≡ every isUnused (drop start places) ⌝ }
 {
@@ -160,6 +160,16 @@ fn ack_refusal(s: Settings, q: Standby, reading: u64, observer: u64, ts: u64, co
         return 7;
     }
     if ts == q.ts { 0 } else { 8 }
+}
+
+fn poll_refusal(s: Settings, q: Standby, reading: u64) -> u32
+    ensures { λ r. ⌜ r ≡ first (pollRefusals s q reading) ⌝ }
+{
+    let sooner = begin_refusal(s, q, reading);
+    if sooner != 0 {
+        return sooner;
+    }
+    if q.open_flag { 0 } else { 7 }
 }
 
 fn no_places() -> [Place; 16]
@@ -260,6 +270,25 @@ fn after_keeping(s: Settings, q: Standby, reading: u64, places: [Place; 16]) -> 
     }
 }
 
+// "A refusal returns its number and the record as it came."
+fn refused(q: Standby, number: u32) -> Stepped
+    ensures { λ r. ⌜ outcome r ≡ (refuses number leaving q) ⌝ }
+{
+    Stepped {
+        answer: Answer::Refused(number),
+        rec: q,
+    }
+}
+
+fn late(reading: u64) -> Stepped
+    ensures { λ r. ⌜ outcome r ≡ (says "late" leaving closed reading) ⌝ }
+{
+    Stepped {
+        answer: Answer::Late,
+        rec: closed_round(reading),
+    }
+}
+
 // The round goes on: only the last reading changes.
 fn still_waiting(q: Standby, reading: u64) -> Stepped
     ensures { λ r. ⌜ outcome r ≡ (says "waiting" leaving atReading reading q) ⌝ }
@@ -278,10 +307,7 @@ pub fn begin(s: Settings, q: Standby, reading: u64) -> Stepped
 {
     let number = begin_refusal(s, q, reading);
     if number != 0 {
-        return Stepped {
-            answer: Answer::Refused(number),
-            rec: q,
-        };
+        return refused(q, number);
     }
     Stepped {
         answer: Answer::Send(Message::Check(reading)),
@@ -308,16 +334,10 @@ pub fn ack(
 {
     let number = ack_refusal(s, q, reading, observer, ts, counter);
     if number != 0 {
-        return Stepped {
-            answer: Answer::Refused(number),
-            rec: q,
-        };
+        return refused(q, number);
     }
     if is_late(s, q, reading) {
-        return Stepped {
-            answer: Answer::Late,
-            rec: closed_round(reading),
-        };
+        return late(reading);
     }
     let x = observer as usize;
     let mut places = q.places;
@@ -337,26 +357,15 @@ pub fn ack(
 pub fn poll(s: Settings, q: Standby, reading: u64) -> Stepped
     ensures { λ r. ⌜ outcome r ≡ pollOf s q reading ⌝ }
 {
-    let number = begin_refusal(s, q, reading);
+    let number = poll_refusal(s, q, reading);
     if number != 0 {
-        return Stepped {
-            answer: Answer::Refused(number),
-            rec: q,
-        };
-    }
-    if !q.open_flag {
-        return Stepped {
-            answer: Answer::Refused(7),
-            rec: q,
-        };
+        return refused(q, number);
     }
     if is_late(s, q, reading) {
-        return Stepped {
-            answer: Answer::Late,
-            rec: closed_round(reading),
-        };
+        late(reading)
+    } else {
+        still_waiting(q, reading)
     }
-    still_waiting(q, reading)
 }
 
 // What every step keeps, and what stands behind each verdict: the claims stand in specs/Claims.antt.

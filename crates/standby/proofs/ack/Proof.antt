@@ -6,7 +6,7 @@ use lib.ListN.{getD, List·getD-map}
 use borrow.Author.Tests.{ne-eqb}
 use Rattle.settings.proofs.Laws.{accepted-in-range}
 use Rattle.words.specs.Tests.{if_then_else_}
-use Rattle.messages.specs.Answers.{said, says}
+use Rattle.messages.specs.Answers.{says}
 use Rattle.messages.specs.Outcomes.{_leaving_, unlessRefused}
 use Rattle.standby.specs.declared.Place.{Place}
 use Rattle.standby.specs.Standby.{unused, atReading, keeping, afterKeeping, ackWithin, ackOf}
@@ -18,19 +18,25 @@ use Rattle.standby.proofs.ack.Tie as tie
 ack-refusal-requires : tie.Need-ack-refusal-requires
 ack-refusal-requires c κs = search needs
 
+refused-requires : tie.Need-refused-requires
+refused-requires c κs = search needs
+
 returns : tie.Need-returns
-unfolding ackWithin unlessRefused said
-returns c = rw (← (c .before .ack-refusal .ensures), ne-eqb _ _ (c .if1 .taken))
+unfolding ackWithin unlessRefused
+returns c =
+    rw (← (c .before .before .ack-refusal .ensures), ne-eqb _ _ (c .before .if1 .taken)) (c .refused .ensures)
 
 is-late-requires : tie.Need-is-late-requires
 is-late-requires c κs = search needs
 
-closed-round-requires : tie.Need-closed-round-requires
-closed-round-requires c κs = search needs
+late-requires : tie.Need-late-requires
+late-requires c κs = search needs
 
 returns-2 : tie.Need-returns-2
-unfolding ackWithin unlessRefused said
-returns-2 c = rw (← (c .before .before .before .before .ack-refusal .ensures), c .before .before .before .if1 .left, ← (c .before .before .is-late .ensures), c .before .if2 .taken, c .closed-round .ensures)
+unfolding ackWithin unlessRefused
+returns-2 c =
+    let d = c .before .before in
+    rw (← (d .before .before .ack-refusal .ensures), d .before .if1 .left, ← (d .is-late .ensures), c .before .if2 .taken) (c .late .ensures)
 
 -- an observer that is not refused has a place
 has-place : (c : tie.Else1) → c .before .before .args .observer < 16
@@ -81,9 +87,10 @@ ack-spec =
     tie.close
     (tie.spec
     ack-refusal-requires
+    refused-requires
     returns
     is-late-requires
-    closed-round-requires
+    late-requires
     returns-2
     mul-old
     array-copy-out-old
