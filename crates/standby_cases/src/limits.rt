@@ -45,14 +45,20 @@ fn with_ack(s: Settings, q: Standby, x: u64) -> Standby {
     done.rec
 }
 
+// The acks of observers 0 to 13.
+fn many_kept(s: Settings, begun: Standby) -> Standby {
+    let mut q = begun;
+    for x in 0..14 {
+        q = with_ack(s, q, x);
+    }
+    q
+}
+
 // With t = 1 all n observers are a query quorum: 15 acks wait for the last.
 fn sixteen() {
     let s = settings_of(16, 1, 159);
     let begun = standby::begin(s, fresh(), 1000);
-    let mut q = begun.rec;
-    for x in 0..14 {
-        q = with_ack(s, q, x);
-    }
+    let q = many_kept(s, begun.rec);
     let more = show::line(
         b"ack of 14 of 16",
         standby::ack(s, q, 1000, 14, 1000, 14, Status::Alive),

@@ -123,11 +123,15 @@ fn polls() {
     poll_with(7, 7);
 }
 
+fn acks() {
+    for a in 1..9 {
+        acks_from(a);
+    }
+}
+
 pub fn cases() {
     begins();
     polls();
     ack_with(0, 0);
-    for a in 1..9 {
-        acks_from(a);
-    }
+    acks();
 }
