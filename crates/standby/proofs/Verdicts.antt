@@ -1,19 +1,19 @@
 -- What stands behind each verdict: m is the greatest counter kept, dead has an ack that says so with m, and alive has none.
 -- Assumes nothing.
-use Prim.Native.Nat.{ℕ, zero, suc, _≤_, _<_}
+use Prim.Native.Nat.{ℕ, zero, suc, max, _+_, _≤_, _<_}
 use native.Mathlib.Omega.{arith}
 use native.Mathlib.Nat.{le-refl, le-trans}
 use mathlib.Core.Path.{_≡_, refl, sym, ap, _∙_}
 use mathlib.Core.Bool.{Bool, true, false, _&&_}
 use mathlib.Core.List.{List, [], _∷_}
-use lib.ListN.{getD}
+use lib.ListN.{length, drop, getD, drop-of-length-le}
 use borrow.Author.Tests.{ltb-true, ltb-false, eqb-true, eqb-false, eq-eqb}
 use Rattle.words.specs.Tests.{if_then_else_, _<?_, _=?_}
 use Rattle.words.specs.Lists.{some}
 use Rattle.words.specs.Said.{Said}
 use Rattle.words.specs.Said.Said.{refusal, gives}
 use Rattle.words.proofs.Booleans.{both-hold, not-both, whether}
-use Rattle.words.proofs.Walks.{some-at, none-at}
+use Rattle.words.proofs.Walks.{next, some-at, none-at}
 use Rattle.messages.specs.declared.Status.{Status}
 use Rattle.messages.specs.declared.Status.the-variants.{Alive, Dead}
 use Rattle.messages.specs.Answers.{Spoken, says, saysOf}
@@ -56,6 +56,26 @@ one-as-high (place ∷ places) h =
 
 is-greatest : (places : List Place) → Greatest places (greatest places)
 is-greatest places = record { none-higher = none-higher places; one-as-high = one-as-high places }
+
+-- a walk from the first place on: one place more, and the end
+greater : (k : Bool) (c m g : ℕ) → max m (if k && (g <? c) then c else g) ≡ max (if k && (m <? c) then c else m) g
+greater false c m g = refl
+greater true c m g =
+    whether (λ x. max m x ≡ max (if m <? c then c else m) g) (g <? c) c g
+    (λ above. whether (λ x. max m c ≡ max x g) (m <? c) c m (λ e. omega (arith, ltb-true g c above, ltb-true m c e)) (λ e. omega (arith, ltb-true g c above, ltb-false m c e)))
+    (λ below. whether (λ x. max m g ≡ max x g) (m <? c) c m (λ e. omega (arith, ltb-false g c below, ltb-true m c e)) (λ e. refl))
+
+pub greatest-more : (places : List Place) (i m : ℕ) → i < length places
+    → max m (greatest (drop i places))
+    ≡ max (if getD places i unused .kept && (m <? getD places i unused .counter) then getD places i unused .counter else m) (greatest (drop (i + 1) places))
+unfolding greatest
+greatest-more places i m h =
+    let place = getD places i unused in
+    rw (next unused places i h) (greater (place .kept) (place .counter) m (greatest (drop (i + 1) places)))
+
+pub greatest-done : (places : List Place) (i m : ℕ) → length places ≤ i → max m (greatest (drop i places)) ≡ m
+unfolding greatest
+greatest-done places i m h = rw (drop-of-length-le places {i = i} h) (omega arith)
 
 -- ---- What is said
 

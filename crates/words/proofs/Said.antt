@@ -3,9 +3,9 @@ use Prim.Native.Nat.{ℕ, zero, suc}
 use native.Mathlib.Omega.{arith}
 use mathlib.Core.Path.{_≡_, refl, sym, ap, _∙_}
 use mathlib.Core.Bool.{Bool, true, false, _||_, not}
-use mathlib.Core.List.{List, [], _∷_}
+use mathlib.Core.List.{List, [], _∷_, _++_}
 use lib.ListN.{getD}
-use borrow.Author.Tests.{ltb-true, eqb-false, not-true}
+use borrow.Author.Tests.{ltb-true, eqb-false, ne-eqb, not-true}
 use Rattle.words.specs.Tests.{if_then_else_, _<?_, _=?_}
 use Rattle.words.specs.Lists.{every}
 use Rattle.words.specs.Said.{Refusal, first, _when_}
@@ -29,6 +29,27 @@ none-applies (r ∷ rs) e numbered i =
         → getD (r ∷ rs) i (0 when false) .applies ≡ false
     at zero this others = this
     at (suc i) this others = others i
+
+-- one table after another: the second is looked at where the first refuses nothing
+pub first-after : (rs later : List Refusal) → every (λ r. 0 <? r .no) rs ≡ true
+    → first (rs ++ later) ≡ (if first rs =? 0 then first later else first rs)
+unfolding first every
+first-after [] later numbered = refl
+first-after (r ∷ rs) later numbered =
+    let positive = both-hold (0 <? r .no) (every (λ r. 0 <? r .no) rs) numbered in
+    by (r .applies) (positive .0) (first rs) (first-after rs later (positive .1))
+  where
+    by : (b : Bool) → (0 <? r .no) ≡ true → (k : ℕ) {l : ℕ} → l ≡ (if k =? 0 then first later else k)
+        → (if b then r .no else l) ≡ (if (if b then r .no else k) =? 0 then first later else (if b then r .no else k))
+    by true h k e = rw (ne-eqb (r .no) 0 (λ z. omega (arith, ltb-true 0 (r .no) h)))
+    by false h k e = e
+
+module _ (rs later : List Refusal) (numbered : every (λ r. 0 <? r .no) rs ≡ true) {k : ℕ} (e : k ≡ first rs) where
+  pub first-stays : (k ≡ 0 → ⊥) → k ≡ first (rs ++ later)
+  first-stays given = sym (first-after rs later numbered ∙ rw (← e, ne-eqb k 0 given))
+
+  pub first-goes-on : k ≡ 0 → first (rs ++ later) ≡ first later
+  first-goes-on none = first-after rs later numbered ∙ rw (← e, none)
 
 -- a number whose lines do not apply is not given
 pub never-given : (k : ℕ) → (k ≡ 0 → ⊥) → (rs : List Refusal) → every (λ r. not (r .applies) || not (r .no =? k)) rs ≡ true

@@ -3,12 +3,12 @@
 use Prim.Native.Nat.{ℕ, zero, suc, _+_, _<_, _≤_}
 use native.Mathlib.Numerals.{add-one}
 use mathlib.Core.Path.{_≡_, refl, sym, ap, ap₂, _∙_}
-use mathlib.Core.Bool.{Bool, true, false, _&&_, _||_, and-assoc, and-true}
-use mathlib.Core.List.{List, [], _∷_}
+use mathlib.Core.Bool.{Bool, true, false, _&&_, _||_, and-assoc, and-true, or-assoc, or-false}
+use mathlib.Core.List.{List, [], _∷_, _++_, map, foldl, append-assoc, append-nil}
 use native.Mathlib.Omega.{arith}
 use borrow.Author.Tests.{ltb-true, ltb-false}
 use lib.ListN.{length, getD, drop, take, set, replicate, drop-of-length-le, List·getD-eq-default, length-take}
-use lib.Seq.{drop-cons, take-nil, take-all, getD-take}
+use lib.Seq.{drop-cons, take-nil, take-all, take-suc-set, getD-take}
 use Rattle.words.specs.Tests.{if_then_else_, _<?_}
 use Rattle.words.specs.Lists.{every, some, countWhere}
 use Rattle.words.proofs.Booleans.{both-hold, neither-holds, not-both}
@@ -26,6 +26,32 @@ module _ {A : Type 0} (test : A → Bool) (xs : List A) (i : ℕ) where
   pub every-done : {all : Bool} (ok : Bool) → length xs ≤ i → all ≡ (ok && every test (drop i xs)) → ok ≡ all
   unfolding every
   every-done ok h e = sym (e ∙ rw (drop-of-length-le xs {i = i} h) (and-true ok))
+
+  pub some-more : (none : A) {any : Bool} (found : Bool) → i < length xs → any ≡ (found || some test (drop i xs))
+      → any ≡ (found || test (getD xs i none) || some test (drop (i + 1) xs))
+  unfolding some
+  some-more none found h e =
+      e ∙ rw (next none xs i h) (sym (or-assoc found (test (getD xs i none)) (some test (drop (i + 1) xs))))
+
+  pub some-done : {any : Bool} (found : Bool) → length xs ≤ i → any ≡ (found || some test (drop i xs)) → found ≡ any
+  unfolding some
+  some-done found h e = sym (e ∙ rw (drop-of-length-le xs {i = i} h) (or-false found))
+
+-- conditions joined from the left, as code joins them
+pub every-joined : (a : Bool) (bs : List Bool) → foldl _&&_ a bs ≡ (a && every (λ b. b) bs)
+unfolding every
+every-joined a [] = sym (and-true a)
+every-joined a (b ∷ bs) = every-joined (a && b) bs ∙ and-assoc a b (every (λ b. b) bs)
+
+-- an array is filled with what a function gives of each element: what is passed stands in it already
+module _ {A B : Type 0} (f : A → B) (xs : List A) (i : ℕ) where
+  pub map-more : (none : A) (out : List B) → i < length xs → i < length out → map f xs ≡ take i out ++ map f (drop i xs)
+      → map f xs ≡ take (i + 1) (set out i (f (getD xs i none))) ++ map f (drop (i + 1) xs)
+  map-more none out h k e =
+      e ∙ rw (next none xs i h, add-one i, take-suc-set out i (f (getD xs i none)) k) (sym (append-assoc (take i out) (f (getD xs i none) ∷ []) (map f (drop (suc i) xs))))
+
+  pub map-done : (out : List B) → length xs ≤ i → length out ≤ i → map f xs ≡ take i out ++ map f (drop i xs) → out ≡ map f xs
+  map-done out h k e = sym (e ∙ rw (drop-of-length-le xs {i = i} h, take-all i out k) (append-nil out))
 
 -- past the end stands an element that does not meet the test
 module _ {A : Type 0} (test : A → Bool) (none : A) (fails : test none ≡ false) where
