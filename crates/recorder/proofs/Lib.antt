@@ -9,7 +9,7 @@ pub mod Placing
 pub mod Lacking
 pub mod Keeping
 pub mod Steps
-mod Places
+pub mod Places
 mod Leases
 mod Coded
 mod Walked

@@ -14,7 +14,7 @@ fn one_lease(counter: u64, send: u64) -> Recorder {
     rec
 }
 
-pub fn cases() {
+fn first_and_last() {
     let s = steps::as_in_01();
     let fresh = steps::fresh();
     steps::drive(b"fresh, drive 0", s, fresh, 0);
@@ -38,6 +38,10 @@ pub fn cases() {
     steps::tick(b"fresh, tick 2^40", s, fresh, TOP_READING + 1);
     steps::grant(b"grant at 2^40", s, first, TOP_READING + 1, 0, 1);
     steps::drive(b"fresh, drive 2^64 - 1", s, fresh, 18446744073709551615);
+}
+
+// η is 1, so that a request can leave at the last reading.
+fn last_counter() {
     let quick = steps::of(1, 1, 1, 1, 64, 65, 1);
     let late = one_lease(TOP_READING, TOP_READING - 1);
     let top = steps::tick(b"counter 2^40 - 1, tick", quick, late, TOP_READING);
@@ -60,4 +64,9 @@ pub fn cases() {
     );
     let above = one_lease(TOP_READING + 2, TOP_READING);
     steps::drive(b"counter 2^40 + 1, drive", quick, above, TOP_READING);
+}
+
+pub fn cases() {
+    first_and_last();
+    last_counter();
 }
