@@ -1,0 +1,2 @@
+-- What the walks of the lent layer share.
+mod Record

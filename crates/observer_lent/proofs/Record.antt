@@ -1,0 +1,22 @@
+-- The observer's record in memory: its machine value, that a record of fitting fields has it, and that its fields fit.
+-- Assumes nothing.
+use mathlib.Core.Path.{refl}
+use Prim.Native.Nat.{_<_, _^_}
+use mathlib.Core.List.{[], _∷_, List}
+use mir.Syntax.{w64}
+use mir.Val.{Val, vint, vstruct, vnil, vcons}
+use denote.Laws.{Is}
+use denote.Struct.Laws as LL
+use Rattle.observer.specs.declared.Observer.{Observer}
+use Rattle.observer.proofs.Observer as T
+use Rattle.observer.proofs.Observer.Laws as T′
+
+abbrev pub mach : Observer → Val
+mach h = vstruct (vcons (vint w64 (h .latest)) (vcons (vint w64 (h .deadline)) (vcons (vint w64 (h .«last_reading»)) vnil)))
+
+pub made : (h : Observer) → h .latest < 2 ^ 64 → h .deadline < 2 ^ 64 → h .«last_reading» < 2 ^ 64 → Is T.the-row h (mach h ∷ [])
+made h latest deadline last = LL.owes T.the-type T′.the-laws h ((refl, latest), ((refl, deadline), ((refl, last), tt)))
+
+pub bounds : (h : Observer) (vs : List Val) → Is T.the-row h vs
+    → (h .latest < 2 ^ 64) × (h .deadline < 2 ^ 64) × (h .«last_reading» < 2 ^ 64)
+bounds h vs g = let f = LL.owed T.the-type T′.the-laws h vs g in (f .0 .1, f .1 .0 .1, f .1 .1 .0 .1)
