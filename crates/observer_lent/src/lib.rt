@@ -3,11 +3,14 @@
 // alters one field of the lent record.
 use messages::Answer;
 use observer::Observer;
+use observer::Stepped;
 use settings::Settings;
 ghost use mathlib.Core.Path.{_≡_};
+ghost use mathlib.Core.Bool.{Bool};
 ghost use Rattle.messages.specs.Answers.{said};
 ghost use Rattle.messages.specs.Outcomes.{_leaving_};
 ghost use Rattle.observer.specs.Observer.{Store, store, atReading, requestOf, cutOf, checkOf};
+ghost use Rattle.observer_lent.specs.Left.{refused, left};
 
 fn store_deadline(o: &mut Observer, deadline: u64)
     ensures { λ _. ⌜ now (o .exit) ≡ store (Store.deadline deadline) (now (o .entry)) ⌝ }
@@ -27,21 +30,35 @@ fn set_last_reading(o: &mut Observer, reading: u64)
     o.last_reading = reading;
 }
 
-// The lent record becomes the next one, a field at a time, in the order of 01: the deadline, then latest.
-fn leave(o: &mut Observer, next: Observer)
-    ensures { λ _. ⌜ now (o .exit) ≡ next ⌝ }
+fn is_refusal(answer: Answer) -> bool
+    ensures { λ r. ⌜ r ≡ refused (said answer) ⌝ }
 {
-    store_deadline(&mut *o, next.deadline);
-    store_latest(&mut *o, next.latest);
-    set_last_reading(&mut *o, next.last_reading);
+    match answer {
+        Answer::Refused(_) => true,
+        _ => false,
+    }
+}
+
+// What a step left is stored in the lent record, a field at a time, in the order of 01: the deadline, then latest. A refusal
+// writes nothing.
+fn leave(o: &mut Observer, done: Stepped) -> Answer
+    ensures { λ a. ⌜ (a ≡ done .answer) × (now (o .exit) ≡ left (now (o .entry)) done) ⌝ }
+{
+    let answer = done.answer;
+    if is_refusal(answer) {
+        return answer;
+    }
+    store_deadline(&mut *o, done.rec.deadline);
+    store_latest(&mut *o, done.rec.latest);
+    set_last_reading(&mut *o, done.rec.last_reading);
+    answer
 }
 
 pub fn request_lent(o: &mut Observer, s: Settings, x: u64, reading: u64, counter: u64) -> Answer
     ensures { λ a. ⌜ (said a leaving now (o .exit)) ≡ requestOf s (now (o .entry)) x reading counter ⌝ }
 {
     let done = observer::request(s, *o, x, reading, counter);
-    leave(&mut *o, done.rec);
-    done.answer
+    leave(&mut *o, done)
 }
 
 pub fn cut_lent(
@@ -55,14 +72,12 @@ pub fn cut_lent(
     ensures { λ a. ⌜ (said a leaving now (o .exit)) ≡ cutOf s (now (o .entry)) x reading counter stores ⌝ }
 {
     let done = observer::cut_request(s, *o, x, reading, counter, stores);
-    leave(&mut *o, done.rec);
-    done.answer
+    leave(&mut *o, done)
 }
 
 pub fn check_lent(o: &mut Observer, s: Settings, x: u64, reading: u64, ts: u64) -> Answer
     ensures { λ a. ⌜ (said a leaving now (o .exit)) ≡ checkOf s (now (o .entry)) x reading ts ⌝ }
 {
     let done = observer::check(s, *o, x, reading, ts);
-    leave(&mut *o, done.rec);
-    done.answer
+    leave(&mut *o, done)
 }
