@@ -10,6 +10,7 @@ ghost use mathlib.Core.Bool.{Bool};
 ghost use Rattle.messages.specs.Answers.{said};
 ghost use Rattle.messages.specs.Outcomes.{_leaving_};
 ghost use Rattle.observer.specs.Observer.{Store, store, atReading, requestOf, cutOf, checkOf};
+ghost use Rattle.observer.specs.Outcome.{outcome};
 ghost use Rattle.observer_lent.specs.Left.{refused, left};
 
 fn store_deadline(o: &mut Observer, deadline: u64)
@@ -80,4 +81,36 @@ pub fn check_lent(o: &mut Observer, s: Settings, x: u64, reading: u64, ts: u64) 
 {
     let done = observer::check(s, *o, x, reading, ts);
     leave(&mut *o, done)
+}
+
+// For a caller that has the record by value: it is lent to the step, and comes back beside the answer.
+pub fn lend_to_request(s: Settings, o: Observer, x: u64, reading: u64, counter: u64) -> Stepped
+    ensures { λ r. ⌜ outcome r ≡ requestOf s o x reading counter ⌝ }
+{
+    let mut own = o;
+    let answer = request_lent(&mut own, s, x, reading, counter);
+    Stepped { answer, rec: own }
+}
+
+pub fn lend_to_cut(
+    s: Settings,
+    o: Observer,
+    x: u64,
+    reading: u64,
+    counter: u64,
+    stores: u64,
+) -> Stepped
+    ensures { λ r. ⌜ outcome r ≡ cutOf s o x reading counter stores ⌝ }
+{
+    let mut own = o;
+    let answer = cut_lent(&mut own, s, x, reading, counter, stores);
+    Stepped { answer, rec: own }
+}
+
+pub fn lend_to_check(s: Settings, o: Observer, x: u64, reading: u64, ts: u64) -> Stepped
+    ensures { λ r. ⌜ outcome r ≡ checkOf s o x reading ts ⌝ }
+{
+    let mut own = o;
+    let answer = check_lent(&mut own, s, x, reading, ts);
+    Stepped { answer, rec: own }
 }

@@ -49,7 +49,6 @@ use Rattle.observer.specs.declared.Stepped.{Stepped}
 use Rattle.observer.specs.Observer.{store, atReading}
 use Rattle.observer.specs.Observer.Store.{deadline, latest}
 use Rattle.observer.proofs.Observer as T
-use Rattle.observer.proofs.Observer.Laws as T′
 use Rattle.observer.proofs.Stepped as D
 use Rattle.observer.proofs.Stepped.Laws as D′
 use Rattle.observer_lent.specs.Left.{refused, left}
