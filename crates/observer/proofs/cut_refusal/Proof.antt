@@ -6,8 +6,8 @@ use borrow.Author.Tests.{lt-ltb, le-ltb}
 use Rattle.words.specs.Tests.{_<?_}
 use Rattle.words.specs.Said.{_when_, first}
 use Rattle.words.specs.Lists.{every}
-use Rattle.observer.proofs.Refusals.{still-refused, passed-on}
 use Rattle.observer.specs.Observer.{requestRefusals, cutRefusals}
+use Rattle.observer.proofs.Refusals.{still-refused, passed-on}
 use Rattle.observer.proofs.cut_refusal.Statement.{statement}
 use Rattle.observer.proofs.cut_refusal.Tie as tie
 
@@ -19,12 +19,17 @@ returns c =
     let a = c .before .before .args in
     still-refused (requestRefusals (a .s) (a .o) (a .x) (a .reading) (a .counter)) _ (c .before .request-refusal .ensures) (c .if1 .taken)
 
+none-before : (c : tie.Else1) → let a = c .before .before .args in first (requestRefusals (a .s) (a .o) (a .x) (a .reading) (a .counter)) ≡ 0
+none-before c = sym (c .before .request-refusal .ensures) ∙ c .if1 .left
+
 -- nothing before it applies: 9 alone decides
-only-9 : (c : tie.Else1) → let a = c .before .before .args in first (cutRefusals (a .s) (a .o) (a .x) (a .reading) (a .counter) (a .stores)) ≡ first (9 when (2 <? a .stores) ∷ [])
+only-9 : (c : tie.Else1)
+    → let a = c .before .before .args in
+    first (cutRefusals (a .s) (a .o) (a .x) (a .reading) (a .counter) (a .stores)) ≡ first (9 when (2 <? a .stores) ∷ [])
 unfolding every
 only-9 c =
     let a = c .before .before .args in
-    passed-on (requestRefusals (a .s) (a .o) (a .x) (a .reading) (a .counter)) (9 when (2 <? a .stores) ∷ []) refl (sym (c .before .request-refusal .ensures) ∙ c .if1 .left)
+    passed-on (requestRefusals (a .s) (a .o) (a .x) (a .reading) (a .counter)) (9 when (2 <? a .stores) ∷ []) refl (none-before c)
 
 returns-2 : tie.Need-returns-2
 unfolding first

@@ -1,8 +1,8 @@
 -- `observer::cut_request` meets its contract. Assumes nothing.
 use mathlib.Core.Path.{_≡_, sym, _∙_}
 use borrow.Author.Needs.{needs}
-use Rattle.settings.proofs.Laws.{accepted-in-range}
 use Rattle.words.specs.Said.{first}
+use Rattle.settings.proofs.Laws.{accepted-in-range}
 use Rattle.messages.specs.Answers.{said}
 use Rattle.observer.specs.Observer.{cutRefusals, cutOf}
 use Rattle.observer.proofs.Refusals.{so-refused, is-done}

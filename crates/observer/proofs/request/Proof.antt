@@ -1,12 +1,12 @@
 -- `observer::request` meets its contract. Assumes nothing.
+use native.Mathlib.Omega.{arith}
 use mathlib.Core.Path.{_≡_, sym, _∙_}
 use borrow.Author.Needs.{needs}
 use borrow.Author.Tests.{lt-ltb, le-ltb}
-use Rattle.settings.proofs.Laws.{accepted-in-range}
 use Rattle.words.specs.Said.{first}
+use Rattle.settings.proofs.Laws.{accepted-in-range}
 use Rattle.messages.specs.Answers.{said}
 use Rattle.observer.specs.Observer.{atReading, storeAll, stores, requestRefusals, requestOf}
-use native.Mathlib.Omega.{arith}
 use Rattle.observer.proofs.Refusals.{so-refused, is-done}
 use Rattle.observer.proofs.Laws.{request-accepted, all-of-them}
 use Rattle.observer.proofs.request.Statement.{statement}

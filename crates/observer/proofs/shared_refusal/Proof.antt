@@ -1,17 +1,17 @@
 -- `observer::shared_refusal` meets its contract: each number is given where those before it do not apply. Assumes nothing.
 use mathlib.Core.Path.{_≡_, refl, sym, _∙_}
+use mathlib.Core.Bool.{true, not}
+use mathlib.Core.List.{[], _∷_}
 use borrow.Author.Tests.{le-leb, lt-leb, not-false}
 use borrow.Author.Needs.{needs}
 use Rattle.words.specs.Said.{first, _when_}
 use Rattle.words.specs.Lists.{every}
+use Rattle.words.specs.Tests.{_≤?_}
 use Rattle.settings.specs.Settings.{n, refusals, refusalOf}
 use Rattle.settings.proofs.Laws.{accepted-in-range}
 use Rattle.observer.specs.Observer.{hasForm}
-use Rattle.observer.proofs.Refusals.{still-refused, passed-on}
-use mathlib.Core.Bool.{true, not}
-use mathlib.Core.List.{[], _∷_}
-use Rattle.words.specs.Tests.{_≤?_}
 use Rattle.observer.specs.Outcome.{sharedRefusals}
+use Rattle.observer.proofs.Refusals.{still-refused, passed-on}
 use Rattle.observer.proofs.shared_refusal.Statement.{statement}
 use Rattle.observer.proofs.shared_refusal.Tie as tie
 

@@ -1,9 +1,9 @@
 -- `observer::store_first` meets its contract: the stores done are the first of the list. Assumes nothing.
 use native.Mathlib.Omega.{arith}
+use lib.Seq.{take-nil}
 use borrow.Author.Tests.{le-ltb, lt-ltb}
 use borrow.Author.Needs.{needs}
 use Rattle.observer.specs.Observer.{storeAll, stores}
-use lib.Seq.{take-nil}
 use Rattle.observer.proofs.Laws.{all-of-them}
 use Rattle.observer.proofs.store_first.Statement.{statement}
 use Rattle.observer.proofs.store_first.Tie as tie
