@@ -5,6 +5,7 @@ use mathlib.Core.Path.{_≡_, refl, sym}
 use mathlib.Core.Bool.{Bool, true, false, _||_}
 use mathlib.Core.List.{[], _∷_}
 use lib.ListN.{take, getD}
+use lib.Seq.{take-nil, take-all}
 use borrow.Author.Tests.{ltb-true, ltb-false, le-leb, le-ltb, ne-eqb}
 use Rattle.words.specs.Tests.{if_then_else_, _<?_, _=?_}
 use Rattle.words.specs.Lists.{every}
@@ -45,13 +46,17 @@ stored s o r c k = by (o .latest <? c) refl k
     by true e (suc (suc zero)) = rw e (both (ltb-true _ _ e))
     by true e (suc (suc (suc k))) = rw e (both (ltb-true _ _ e))
 
-all-stored : (s : Settings) (o : Observer) (r c : ℕ) → Stored s o r c (storeAll (stores s o r c) o)
-unfolding stores storeAll
-all-stored s o r c = by (o .latest <? c) refl
+-- two stores, or more, are all of them
+pub all-of-them : (s : Settings) (o : Observer) (r c k : ℕ) → 2 ≤ k → take k (stores s o r c) ≡ stores s o r c
+unfolding stores
+all-of-them s o r c k h = by (o .latest <? c) refl
   where
-    by : (b : Bool) → (o .latest <? c) ≡ b → Stored s o r c (storeAll (stores s o r c) o)
-    by false e = rw e unchanged
-    by true e = rw e (both (ltb-true _ _ e))
+    by : (b : Bool) → (o .latest <? c) ≡ b → take k (stores s o r c) ≡ stores s o r c
+    by false e = rw e (take-nil k)
+    by true e = rw e (take-all k _ h)
+
+all-stored : (s : Settings) (o : Observer) (r c : ℕ) → Stored s o r c (storeAll (stores s o r c) o)
+all-stored s o r c = rw (all-of-them s o r c 2 (omega arith)) at (stored s o r c 2)
 
 -- ---- What a step that is not refused knows of its inputs
 
@@ -61,6 +66,27 @@ reading-fine last r e = ltb-false _ _ (neither-holds (topReading <? r) (r <? las
 counter-fine : (c : ℕ) → ((c =? 0) || (topCounter <? c)) ≡ false → c ≤ topCounter
 counter-fine c e = ltb-false _ _ (neither-holds (c =? 0) (topCounter <? c) e .1)
 
+pub request-accepted : (s : Settings) (o : Observer) (x r c : ℕ) → first (requestRefusals s o x r c) ≡ 0
+    → (refusalOf s ≡ 0) × (r ≤ topReading) × (c ≤ topCounter)
+unfolding refusalOf first every
+request-accepted s o x r c e =
+    let fine = none-applies (requestRefusals s o x r c) e refl in
+    (rw (fine 0, fine 1), reading-fine _ _ (fine 3), counter-fine _ (fine 5))
+
+pub cut-accepted : (s : Settings) (o : Observer) (x r c k : ℕ) → first (cutRefusals s o x r c k) ≡ 0
+    → (refusalOf s ≡ 0) × (r ≤ topReading) × (c ≤ topCounter)
+unfolding refusalOf first every
+cut-accepted s o x r c k e =
+    let fine = none-applies (cutRefusals s o x r c k) e refl in
+    (rw (fine 0, fine 1), reading-fine _ _ (fine 3), counter-fine _ (fine 5))
+
+pub check-accepted : (s : Settings) (o : Observer) (x r ts : ℕ) → first (checkRefusals s o x r ts) ≡ 0
+    → (refusalOf s ≡ 0) × (r ≤ topReading)
+unfolding refusalOf first every
+check-accepted s o x r ts e =
+    let fine = none-applies (checkRefusals s o x r ts) e refl in
+    (rw (fine 0, fine 1), reading-fine _ _ (neither-holds _ _ (fine 3) .0))
+
 -- ---- What any step leaves: the record as it came, or some of a request's stores and a last reading
 
 pub data Leaves (s : Settings) (o : Observer) (r : ℕ) : Observer → Type 0 where
@@ -69,20 +95,16 @@ pub data Leaves (s : Settings) (o : Observer) (r : ℕ) : Observer → Type 0 wh
       → Stored s o r c o′ → Leaves s o r (atReading last o′)
 
 pub leaves : (s : Settings) (o : Observer) (x r : ℕ) (event : Event) → Leaves s o r (stepOf s o x r event .rec)
-unfolding stepOf requestOf cutOf checkOf refusalOf first every
+unfolding stepOf requestOf cutOf checkOf
 leaves s o x r (request c) =
     refused-or-done (λ out. Leaves s o r (out .rec)) (requestRefusals s o x r c) o _ (λ _. as-it-came) (λ e.
-    let fine = none-applies (requestRefusals s o x r c) e refl in
-    altered c r (rw (fine 0, fine 1)) (reading-fine _ _ (fine 3)) (counter-fine _ (fine 5)) (reading-fine _ _ (fine 3)) (all-stored s o r c))
+    let fine = request-accepted s o x r c e in altered c r (fine .0) (fine .1) (fine .2) (fine .1) (all-stored s o r c))
 leaves s o x r (cut c k) =
     refused-or-done (λ out. Leaves s o r (out .rec)) (cutRefusals s o x r c k) o _ (λ _. as-it-came) (λ e.
-    let fine = none-applies (cutRefusals s o x r c k) e refl in
-    altered c 0 (rw (fine 0, fine 1)) (reading-fine _ _ (fine 3)) (counter-fine _ (fine 5)) (omega arith) (stored s o r c k))
+    let fine = cut-accepted s o x r c k e in altered c 0 (fine .0) (fine .1) (fine .2) (omega arith) (stored s o r c k))
 leaves s o x r (check ts) =
     refused-or-done (λ out. Leaves s o r (out .rec)) (checkRefusals s o x r ts) o _ (λ _. as-it-came) (λ e.
-    let fine = none-applies (checkRefusals s o x r ts) e refl in
-    let h = reading-fine _ _ (neither-holds _ _ (fine 3) .0) in
-    altered 0 r (rw (fine 0, fine 1)) h (omega arith) h unchanged)
+    let fine = check-accepted s o x r ts e in altered 0 r (fine .0) (fine .1) (omega arith) (fine .1) unchanged)
 
 -- ---- The claims
 

@@ -1,3 +1,4 @@
 -- Document 01, "Observer".
 pub mod Observer
+pub mod Outcome
 pub mod Claims

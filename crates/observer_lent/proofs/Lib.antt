@@ -1,0 +1,3 @@
+-- What the walks of the lent layer share.
+mod Record
+mod Keeping
