@@ -1,4 +1,4 @@
--- Sets of observers: quorums meet, and none is lost as a set grows. Assumes nothing.
+-- Sets of observers: quorums meet, none is lost as a set grows, and nobody is none. Assumes nothing.
 use Prim.Native.Nat.{ℕ, zero, suc, _+_, _-_, _<_, _≤_}
 use native.Mathlib.Omega.{arith}
 use native.Mathlib.Nat.{le-refl, le-trans}

@@ -19,27 +19,33 @@ use Rattle.standby.specs.declared.Place.{Place}
 use Rattle.standby.specs.declared.Standby.{Standby}
 use Rattle.standby.specs.Standby.{isOpen, unused, keptMarks, keeping, isLate, verdict, beginRefusals, ackRefusals, pollRefusals, beginOf, ackWithin, pollWithin, afterKeeping, Event, begin, ack, poll, stepWithin}
 use Rattle.standby.specs.Claims.{Kept, DeadInWindow, KeptStays}
-use Rattle.standby.proofs.Refusals.{unless-refused, ack-counted}
+use Rattle.standby.proofs.Refusals.{unless-refused, Counted, ack-counted}
 use Rattle.standby.proofs.Verdicts.{initial, says-other}
 
+-- the ack with which a round closed: not refused, the first of its observer, within the window, and with those kept a quorum
+pub record ClosedBy (w : ℕ) (s : Settings) (q : Standby) (r x cnt : ℕ) (status : Status) : Type 0 where
+  pub counted : Counted s q r x (q .ts) cnt
+  pub is-first : getD (keptMarks (q .places)) x false ≡ false
+  pub in-time : r - q .ts ≤ w
+  pub quorum : closes s (keptMarks (keeping x cnt status (q .places))) ≡ true
+
 module _ (w : ℕ) (s : Settings) (q : Standby) (r m : ℕ) where
-  -- the event was the ack that the claim speaks of
-  abbrev LastAck : Event → Type 0
+  -- the event was that ack, and the verdict on it
+  abbrev pub LastAck : Event → Type 0
   LastAck event =
       (x : ℕ) × (cnt : ℕ) × (status : Status)
       × (event ≡ ack x (q .ts) cnt status)
-      × (r - q .ts ≤ w)
-      × (closes s (keptMarks (keeping x cnt status (q .places))) ≡ true)
+      × ClosedBy w s q r x cnt status
       × (verdict (keeping x cnt status (q .places)) ≡ saysOf "dead" m)
 
   -- no other answer says dead
   other : (answer : Said Spoken) {A : Type 0} → (initial answer =? initial (saysOf "dead" m)) ≡ false → answer ≡ saysOf "dead" m → A
   other answer differ e = absurd (says-other answer (saysOf "dead" m) differ e)
 
-  abbrev FromAck : Event → Outcome Standby → Type 0
+  abbrev pub FromAck : Event → Outcome Standby → Type 0
   FromAck event o = o .answer ≡ saysOf "dead" m → LastAck event
 
-  from-ack : (event : Event) → FromAck event (stepWithin w s q r event)
+  pub from-ack : (event : Event) → FromAck event (stepWithin w s q r event)
   unfolding stepWithin beginOf ackWithin pollWithin afterKeeping
   from-ack begin =
       unless-refused (FromAck begin) (beginRefusals s q r) q _
@@ -61,13 +67,21 @@ module _ (w : ℕ) (s : Settings) (q : Standby) (r m : ℕ) where
       (λ first.
       whether (FromAck (ack x ts cnt status)) (closes s (keptMarks (keeping x cnt status (q .places)))) _ _
       (λ quorum e.
-      let its-ts = ack-counted s q r x ts cnt accepted .its-ts in
-      (x, cnt, status, ap (λ t. ack x t cnt status) its-ts, ltb-false w (r - q .ts) early, quorum, e))
+      let a = ack-counted s q r x ts cnt accepted in
+      let closed-by : ClosedBy w s q r x cnt status = record {
+        counted = rw (a .its-ts) at a;
+        is-first = first;
+        in-time = ltb-false w (r - q .ts) early;
+        quorum = quorum;
+      } in
+      (x, cnt, status, ap (λ t. ack x t cnt status) (a .its-ts), closed-by, e))
       (λ few. other (says "waiting") refl))))
       (λ refused. other (refuses _) refl)
 
 pub dead-in-window : DeadInWindow
-dead-in-window w s q r event m = from-ack w s q r m event
+dead-in-window w s q r event m e =
+    let a = from-ack w s q r m event e in
+    (a .0, a .1, a .2, a .3, a .4 .in-time, a .4 .quorum, a .5)
 
 module _ (w : ℕ) (s : Settings) (q : Standby) (r x : ℕ) (kept : Kept (q .places) x) where
   abbrev Stays : Outcome Standby → Type 0

@@ -4,7 +4,8 @@ use crate::show;
 use messages::Status;
 use standby::Standby;
 
-// The first acks come from observers 0 and 1 with counter 7, unless said. Settings of 01: two acks are a quorum, and W is 49.
+// A round begun at 1000, with an ack of observer 1 kept. In all these cases the settings are 01's: two acks are a quorum, and
+// W is 49.
 fn one_kept() -> Standby {
     let s = limits::settings_of(3, 2, 159);
     let begun = standby::begin(s, limits::fresh(), 1000);

@@ -1,5 +1,6 @@
--- A loop walks a list by an index i: one element more, and the end. A flag that gathers `every` goes by what is still to
--- come, `drop i`, and a number that gathers `countWhere` by what is passed, `take i`. Assumes nothing.
+-- A loop walks a list by an index i: one element more, and the end. A flag that gathers `every` or `some` goes by what is
+-- still to come, `drop i`, a number that gathers `countWhere` and an array that is filled by what is passed, `take i`. Then
+-- what `every` and `some` say of single elements. Assumes nothing.
 use Prim.Native.Nat.{ℕ, zero, suc, _+_, _<_, _≤_}
 use native.Mathlib.Numerals.{add-one}
 use mathlib.Core.Path.{_≡_, refl, sym, ap, ap₂, _∙_}
