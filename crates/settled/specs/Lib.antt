@@ -3,3 +3,7 @@ pub mod Settled
 pub mod OfSettings
 pub mod OfFields
 pub mod OfLines
+pub mod OfRecorder
+pub mod OfObserver
+pub mod OfLent
+pub mod OfStandby

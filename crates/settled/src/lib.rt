@@ -4,6 +4,10 @@
 ghost use Rattle.settled.specs.OfSettings.{SettingsSettled};
 ghost use Rattle.settled.specs.OfFields.{FieldsSettled};
 ghost use Rattle.settled.specs.OfLines.{LinesSettled};
+ghost use Rattle.settled.specs.OfRecorder.{RecorderSettled};
+ghost use Rattle.settled.specs.OfObserver.{ObserverSettled};
+ghost use Rattle.settled.specs.OfLent.{LentSettled};
+ghost use Rattle.settled.specs.OfStandby.{StandbySettled};
 
 // The public functions of `settings`.
 pub fn settings_settled()
@@ -18,4 +22,24 @@ pub fn fields_settled()
 // The public functions of `lines`.
 pub fn lines_settled()
     ensures { λ _. ⌜ LinesSettled ⌝ }
+{}
+
+// The public functions of `recorder`.
+pub fn recorder_settled()
+    ensures { λ _. ⌜ RecorderSettled ⌝ }
+{}
+
+// The public functions of `observer`.
+pub fn observer_settled()
+    ensures { λ _. ⌜ ObserverSettled ⌝ }
+{}
+
+// The public functions of `observer_lent`.
+pub fn lent_settled()
+    ensures { λ _. ⌜ LentSettled ⌝ }
+{}
+
+// The public functions of `standby`.
+pub fn standby_settled()
+    ensures { λ _. ⌜ StandbySettled ⌝ }
 {}
