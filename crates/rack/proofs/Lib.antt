@@ -8,3 +8,5 @@ pub mod AtObserver
 pub mod AtStandby
 pub mod Along
 pub mod Safety
+pub mod Shown
+pub mod Shortcuts

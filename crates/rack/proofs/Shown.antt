@@ -1,0 +1,118 @@
+-- The runs of specs/Shown.antt: each table computes to what is written in it. Assumes nothing.
+use Prim.Native.Nat.{ℕ, _-_}
+use native.Mathlib.Nat.{le-refl}
+use mathlib.Core.List.{List, [], _∷_}
+use mathlib.Core.Logic.{inl, inr}
+use mathlib.Core.Path.{_≡_, refl}
+use lib.ListN.{take, drop}
+use Rattle.words.specs.Lists.{every, some, countWhere}
+use Rattle.words.specs.Said.{first}
+use Rattle.settings.specs.Settings.{ranges, eachIn, inRange, refusalOf, window}
+use Rattle.settings.specs.Quorums.{members, survives, closes}
+use Rattle.messages.specs.declared.Status.the-variants.{Alive, Dead}
+use Rattle.messages.specs.Answers.{says, saysOf}
+use Rattle.messages.specs.Outcomes.{unlessRefused}
+use Rattle.recorder.specs.Recorder as recorder
+use Rattle.observer.specs.Observer as observer
+use Rattle.standby.specs.Standby as standby
+use Rattle.standby.specs.Standby.Event.{ack}
+use Rattle.standby.proofs.Verdicts.{says-other}
+use Rattle.rack.specs.Clocks.{reads}
+use Rattle.rack.specs.Runs.{time, partyKey, statusKey, messageKey, sameNumbers, wasSent, put, posted, perform, inTime, readingsAt, rising, onClock, delivered, stateAfter, answerTo, isRun, ours}
+use Rattle.rack.specs.Runs.Event.{atStandby}
+use Rattle.rack.specs.Claims.{isRequest, sentBy, prompt, isBegin, ackFrom}
+use Rattle.rack.specs.Tables.{narrow, together, runOf, answersTo}
+use Rattle.rack.specs.Shown.{renewalFails, DeadToldAtTheWindow, renewed, AliveToldWhileDriving, bound, DetectsFrom, lastRequest, QueriedAt, BoundIsMet, BoundIsTight, exchange, JustInTime}
+
+-- all that holds by computation
+record Computed : Type 0 where
+  dead-told : DeadToldAtTheWindow
+  alive-told : AliveToldWhileDriving
+  at-bound : BoundIsMet
+  before-bound : QueriedAt (bound narrow 2 1 - 1) Alive "alive"
+  not-before : DetectsFrom (λ f D. bound narrow f D - 1) ours narrow → ⊥
+  just-in-time : JustInTime
+
+-- the recorder was registered after the first three events of that table
+computed : Computed
+unfolding renewalFails renewed lastRequest exchange isRequest sentBy prompt isBegin ackFrom every some countWhere first ranges eachIn inRange refusalOf window members survives closes unlessRefused recorder.spaced recorder.form recorder.hasForm recorder.lackingFrom recorder.lacking recorder.kept recorder.advanced recorder.accepted recorder.registered recorder.standing recorder.tickEvent recorder.grantEvent recorder.driveEvent recorder.tickOf recorder.grantOf recorder.driveOf recorder.stepOf observer.form observer.hasForm observer.store observer.storeAll observer.stores observer.requestOf observer.cutOf observer.statusAt observer.checkOf observer.stepOf standby.isDead standby.isUnused standby.goodPlace standby.form standby.hasForm standby.beginOf standby.greatest standby.verdict standby.afterKeeping standby.ackWithin standby.stepWithin reads time partyKey statusKey messageKey sameNumbers wasSent put posted perform inTime readingsAt rising onClock delivered stateAfter answerTo isRun answersTo
+computed =
+    let met = runOf (lastRequest 16 Dead "dead") in
+    let missed = runOf (lastRequest 15 Alive "alive") in
+    let early : QueriedAt 15 Alive "alive" =
+    record {
+      as-written = record { accepted = refl; is-run = refl; answers = refl };
+      supposed = record {
+        is-run = refl;
+        registered = (take 8 missed, drop 8 missed, refl, refl);
+        last-sent = refl;
+        arrivals = refl;
+        queried = refl;
+        one-query = refl;
+        begun = le-refl 15;
+        ends = inr (2, inr refl);
+      };
+    } in
+    record {
+      dead-told = record { accepted = refl; is-run = refl; answers = refl };
+      alive-told = record { accepted = refl; is-run = refl; answers = refl };
+      at-bound = record {
+        as-written = record { accepted = refl; is-run = refl; answers = refl };
+        supposed = record {
+          is-run = refl;
+          registered = (take 8 met, drop 8 met, refl, refl);
+          last-sent = refl;
+          arrivals = refl;
+          queried = refl;
+          one-query = refl;
+          begun = le-refl 16;
+          ends = inr (2, inl refl);
+        };
+      };
+      before-bound = early;
+      not-before = λ detects.
+          let told = detects together missed 2 1 [] (take 1 (drop 1 missed)) (drop 3 missed) (atStandby 15 15 (ack 1 14 0 Dead)) 15 14 (early .supposed) in
+          says-other (saysOf "alive" 2) (saysOf "dead" (told .0)) refl (told .1);
+      just-in-time = record {
+        no-slack = refl;
+        in-time = record { accepted = refl; is-run = refl; answers = refl };
+        one-query = refl;
+        replies = refl;
+        too-late = record { accepted = refl; is-run = refl; answers = refl };
+      };
+    }
+
+pub dead-told-at-the-window : DeadToldAtTheWindow
+dead-told-at-the-window = computed .dead-told
+
+pub alive-told-while-driving : AliveToldWhileDriving
+alive-told-while-driving = computed .alive-told
+
+pub bound-is-met : BoundIsMet
+bound-is-met = computed .at-bound
+
+-- `DetectsFrom (bound s)` is `Detects`, its premises in one record
+pub bound-is-tight : BoundIsTight
+bound-is-tight =
+    record {
+      run = computed .before-bound;
+      stated = λ rules s detects clocks run f D later between earlier ending g ts q.
+          detects clocks run f D (q .is-run) (q .registered) (q .last-sent) (q .arrivals)
+          later between earlier ending g ts (q .queried) (q .one-query) (q .begun) (q .ends);
+      as-stated = λ rules s detects clocks run f D is-run registered last-sent arrivals later between earlier ending g ts queried one-query begun ends.
+          detects clocks run f D later between earlier ending g ts
+          (record {
+            is-run = is-run;
+            registered = registered;
+            last-sent = last-sent;
+            arrivals = arrivals;
+            queried = queried;
+            one-query = one-query;
+            begun = begun;
+            ends = ends;
+          });
+      not-before = computed .not-before;
+    }
+
+pub just-in-time : JustInTime
+just-in-time = computed .just-in-time
