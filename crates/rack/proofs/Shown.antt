@@ -22,7 +22,7 @@ use Rattle.rack.specs.Runs.{time, partyKey, statusKey, messageKey, sameN
 use Rattle.rack.specs.Runs.Event.{atStandby}
 use Rattle.rack.specs.Claims.{isRequest, sentBy, prompt, isBegin, ackFrom}
 use Rattle.rack.specs.Tables.{narrow, together, runOf, answersTo}
-use Rattle.rack.specs.Shown.{renewalFails, DeadToldAtTheWindow, renewed, AliveToldWhileDriving, bound, DetectsFrom, lastRequest, QueriedAt, BoundIsMet, BoundIsTight, exchange, JustInTime}
+use Rattle.rack.specs.Shown.{renewalFails, DeadToldAtTheWindow, renewed, AliveToldWhileDriving, bound, DetectsFrom, lastRequest, query, queriedAt, QueriedAt, BoundIsMet, BoundIsTight, asked, replies, JustInTime}
 
 -- all that holds by computation
 record Computed : Type 0 where
@@ -35,10 +35,10 @@ record Computed : Type 0 where
 
 -- the recorder was registered after the first three events of that table
 computed : Computed
-unfolding renewalFails renewed lastRequest exchange isRequest sentBy prompt isBegin ackFrom every some countWhere first ranges eachIn inRange refusalOf window members survives closes unlessRefused recorder.spaced recorder.form recorder.hasForm recorder.lackingFrom recorder.lacking recorder.kept recorder.advanced recorder.accepted recorder.registered recorder.standing recorder.tickEvent recorder.grantEvent recorder.driveEvent recorder.tickOf recorder.grantOf recorder.driveOf recorder.stepOf observer.form observer.hasForm observer.store observer.storeAll observer.stores observer.requestOf observer.cutOf observer.statusAt observer.checkOf observer.stepOf standby.isDead standby.isUnused standby.goodPlace standby.form standby.hasForm standby.beginOf standby.greatest standby.verdict standby.afterKeeping standby.ackWithin standby.stepWithin reads time partyKey statusKey messageKey sameNumbers wasSent put posted perform inTime readingsAt rising onClock delivered stateAfter answerTo isRun answersTo
+unfolding renewalFails renewed lastRequest query asked replies isRequest sentBy prompt isBegin ackFrom every some countWhere first ranges eachIn inRange refusalOf window members survives closes unlessRefused recorder.spaced recorder.form recorder.hasForm recorder.lackingFrom recorder.lacking recorder.kept recorder.advanced recorder.accepted recorder.registered recorder.standing recorder.tickEvent recorder.grantEvent recorder.driveEvent recorder.tickOf recorder.grantOf recorder.driveOf recorder.stepOf observer.form observer.hasForm observer.store observer.storeAll observer.stores observer.requestOf observer.cutOf observer.statusAt observer.checkOf observer.stepOf standby.isDead standby.isUnused standby.goodPlace standby.form standby.hasForm standby.beginOf standby.greatest standby.verdict standby.afterKeeping standby.ackWithin standby.stepWithin reads time partyKey statusKey messageKey sameNumbers wasSent put posted perform inTime readingsAt rising onClock delivered stateAfter answerTo isRun answersTo
 computed =
-    let met = runOf (lastRequest 16 Dead "dead") in
-    let missed = runOf (lastRequest 15 Alive "alive") in
+    let met = runOf (queriedAt 16 Dead "dead") in
+    let missed = runOf (queriedAt 15 Alive "alive") in
     let early : QueriedAt 15 Alive "alive" =
     record {
       as-written = record { accepted = refl; is-run = refl; answers = refl };
@@ -71,13 +71,14 @@ computed =
       };
       before-bound = early;
       not-before = λ detects.
-          let told = detects together missed 2 1 [] (take 1 (drop 1 missed)) (drop 3 missed) (atStandby 15 15 (ack 1 14 0 Dead)) 15 14 (early .supposed) in
+          let told = detects together missed 2 1 [] (atStandby 15 15 (ack 0 14 2 Alive) ∷ []) (runOf (lastRequest 15 Alive))
+          (atStandby 15 15 (ack 1 14 0 Dead)) 15 14 (early .supposed) in
           says-other (saysOf "alive" 2) (saysOf "dead" (told .0)) refl (told .1);
       just-in-time = record {
         no-slack = refl;
         in-time = record { accepted = refl; is-run = refl; answers = refl };
-        one-query = refl;
-        replies = refl;
+        one-round = refl;
+        quorum = refl;
         too-late = record { accepted = refl; is-run = refl; answers = refl };
       };
     }

@@ -5,7 +5,6 @@ use mathlib.Core.Bool.{true}
 use mathlib.Core.List.{List, [], _∷_, _++_}
 use mathlib.Core.Path.{_≡_}
 use lib.IntN.{pos}
-use lib.ListN.{take, drop}
 use Rattle.words.specs.Lists.{every}
 use Rattle.words.specs.Said.{Said}
 use Rattle.settings.specs.declared.Settings.{Settings}
@@ -95,8 +94,8 @@ AliveToldWhileDriving = AsWritten ours usual together renewed
 abbrev pub bound : Settings → (f D : ℕ) → ℕ
 bound s f D = f + D + O s + 2 * rounding s
 
--- All that `Detects` supposes of a run and of the query in it, begun at time g and at or after `from`.
-pub record Supposed (rules : Rules) (s : Settings) (clocks : Clocks) (run : List Event) (f D first : ℕ)
+-- All that `Detects` supposes of a run and of the query in it, begun at time g, which is `least` or later.
+pub record Supposed (rules : Rules) (s : Settings) (clocks : Clocks) (run : List Event) (f D least : ℕ)
     (later between earlier : List Event) (ending : Event) (g ts : ℕ) : Type 0 where
   pub is-run : isRun rules s clocks run ≡ true
   pub registered : RegisteredIn rules s run
@@ -104,21 +103,20 @@ pub record Supposed (rules : Rules) (s : Settings) (clocks : Clocks) (run : List
   pub arrivals : every (prompt D (stateAfter rules s run .history)) run ≡ true
   pub queried : run ≡ later ++ (ending ∷ (between ++ (atStandby g ts begin ∷ earlier)))
   pub one-query : noBegin between ≡ true
-  pub begun : first ≤ g
+  pub begun : least ≤ g
   pub ends : Ended (answerTo rules s (between ++ (atStandby g ts begin ∷ earlier)) ending)
 
 -- every such query says dead
-abbrev pub DetectsFrom : (first : (f D : ℕ) → ℕ) → Rules → Settings → Type 0
-DetectsFrom first rules s =
+abbrev pub DetectsFrom : (least : (f D : ℕ) → ℕ) → Rules → Settings → Type 0
+DetectsFrom least rules s =
     (clocks : Clocks) (run : List Event) (f D : ℕ) (later between earlier : List Event) (ending : Event) (g ts : ℕ)
-    → Supposed rules s clocks run f D (first f D) later between earlier ending g ts
+    → Supposed rules s clocks run f D (least f D) later between earlier ending g ts
     → (m : ℕ) × (answerTo rules s (between ++ (atStandby g ts begin ∷ earlier)) ending ≡ saysOf "dead" m)
 
 -- Request 2, sent at time f = 2, is the last. It arrives at f + D = 3, the latest time for D = 1, and observer 0 stores the
--- deadline 14. The standby begins a round at one reading twice, in two ticks: an ack of the earlier counts in the later, begun
--- at time g. Observer 0 reads as little as it may.
-unfoldable pub lastRequest : (g : ℕ) → Status → (verdict : String) → List Line
-lastRequest g status verdict =
+-- deadline 14. Before g the standby begins a round, and observer 0, which reads as little as it may, answers it.
+unfoldable pub lastRequest : (g : ℕ) → Status → List Line
+lastRequest g status =
     atRecorder 0 0 tick gets sends (LeaseRequest 1)
     ∷ atObserver 0 1 1 (request 1) gets sends (LeaseGrant 1)
     ∷ atRecorder 1 1 (grant 0 1) gets says "running"
@@ -127,24 +125,32 @@ lastRequest g status verdict =
     ∷ atStandby (g - 1) (g - 1) begin gets sends (Check (g - 1))
     ∷ atObserver 0 (g - 1) (g - 2) (check (g - 1)) gets sends (CheckAck (g - 1) 2 status)
     ∷ atObserver 1 (g - 1) (g - 1) (check (g - 1)) gets sends (CheckAck (g - 1) 0 Dead)
-    ∷ atStandby g (g - 1) begin gets sends (Check (g - 1))
+    ∷ []
+
+-- The query is begun at time g, at the reading of that round: the acks of the earlier count in the later.
+unfoldable pub query : (g : ℕ) → Status → (verdict : String) → List Line
+query g status verdict =
+    atStandby g (g - 1) begin gets sends (Check (g - 1))
     ∷ atStandby g g (ack 0 (g - 1) 2 status) gets says "waiting"
     ∷ atStandby g g (ack 1 (g - 1) 0 Dead) gets saysOf verdict 2
     ∷ []
 
--- that run with its query begun at time g: it says so, and meets what `Detects` supposes but for the time at which it is begun
+abbrev pub queriedAt : (g : ℕ) → Status → (verdict : String) → List Line
+queriedAt g status verdict = lastRequest g status ++ query g status verdict
+
+-- the table holds, and the query in it, begun at g, is one of those of which `Detects` speaks
 pub record QueriedAt (g : ℕ) (status : Status) (verdict : String) : Type 0 where
-  pub as-written : AsWritten ours narrow together (lastRequest g status verdict)
+  pub as-written : AsWritten ours narrow together (queriedAt g status verdict)
   pub supposed :
-      Supposed ours narrow together (runOf (lastRequest g status verdict)) 2 1 g
-      [] (take 1 (drop 1 (runOf (lastRequest g status verdict)))) (drop 3 (runOf (lastRequest g status verdict)))
+      Supposed ours narrow together (runOf (queriedAt g status verdict)) 2 1 g
+      [] (atStandby g g (ack 0 (g - 1) 2 status) ∷ []) (runOf (lastRequest g status))
       (atStandby g g (ack 1 (g - 1) 0 Dead)) g (g - 1)
 
 -- Begun at the bound itself, the query says dead.
 abbrev pub BoundIsMet : Type 0
 BoundIsMet = QueriedAt (bound narrow 2 1) Dead "dead"
 
--- Begun one tick before, it says alive. So the bound of `Detects` cannot be less by a tick.
+-- Begun one tick before, it says alive. So `Detects`, which is `DetectsFrom` the bound, fails with a bound less by a tick.
 pub record BoundIsTight : Type 0 where
   pub run : QueriedAt (bound narrow 2 1 - 1) Alive "alive"
   pub stated : (rules : Rules) (s : Settings) → Detects rules s → DetectsFrom (bound s) rules s
@@ -153,24 +159,29 @@ pub record BoundIsTight : Type 0 where
 
 -- ---- 3. One exchange
 
--- The standby begins at time 1100 and reads 9 less; at the last ack, so much later, it reads the very time.
-unfoldable pub exchange : (later : ℕ) → Said Spoken → List Line
-exchange later answer =
+-- The standby begins at time 1100, where it reads 9 less.
+unfoldable pub asked : List Line
+asked =
     atRecorder 1000 1000 tick gets sends (LeaseRequest 1)
     ∷ atObserver 0 1001 1001 (request 1) gets sends (LeaseGrant 1)
     ∷ atObserver 1 1001 1001 (request 1) gets sends (LeaseGrant 1)
     ∷ atStandby 1100 1091 begin gets sends (Check 1091)
-    ∷ atObserver 0 1110 1110 (check 1091) gets sends (CheckAck 1091 1 Alive)
+    ∷ []
+
+-- At the last ack, at time g, it reads the very time.
+unfoldable pub replies : (g : ℕ) → (answer : Said Spoken) → List Line
+replies g answer =
+    atObserver 0 1110 1110 (check 1091) gets sends (CheckAck 1091 1 Alive)
     ∷ atObserver 1 1110 1110 (check 1091) gets sends (CheckAck 1091 1 Alive)
     ∷ atStandby 1120 1120 (ack 0 1091 1 Alive) gets says "waiting"
-    ∷ atStandby (1100 + later) (1100 + later) (ack 1 1091 1 Alive) gets answer
+    ∷ atStandby g g (ack 1 1091 1 Alive) gets answer
     ∷ []
 
 -- With slack b = 0, a round whose last ack comes at the timeliness bound ends; one tick later it is late.
 pub record JustInTime : Type 0 where
   pub no-slack : slackB usual ≡ pos 0
-  pub in-time : AsWritten ours usual together (exchange (Δ usual) (saysOf "alive" 1))
+  pub in-time : AsWritten ours usual together (asked ++ replies (1100 + Δ usual) (saysOf "alive" 1))
   -- what `EndsInOneExchange` supposes: no other round is begun, and the replies of a query quorum arrive within the bound
-  pub one-query : noBegin (take 4 (runOf (exchange (Δ usual) (saysOf "alive" 1)))) ≡ true
-  pub replies : closes usual (ackers 1091 (1100 + Δ usual) (take 4 (runOf (exchange (Δ usual) (saysOf "alive" 1))))) ≡ true
-  pub too-late : AsWritten ours usual together (exchange (Δ usual + 1) (says "late"))
+  pub one-round : noBegin (runOf (replies (1100 + Δ usual) (saysOf "alive" 1))) ≡ true
+  pub quorum : closes usual (ackers 1091 (1100 + Δ usual) (runOf (replies (1100 + Δ usual) (saysOf "alive" 1)))) ≡ true
+  pub too-late : AsWritten ours usual together (asked ++ replies (1100 + Δ usual + 1) (says "late"))
