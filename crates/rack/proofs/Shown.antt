@@ -1,5 +1,4 @@
 -- The runs of specs/Shown.antt: each table computes to what is written in it. Assumes nothing.
-use Prim.Native.Nat.{ℕ, _-_}
 use native.Mathlib.Nat.{le-refl}
 use mathlib.Core.List.{List, [], _∷_}
 use mathlib.Core.Logic.{inl, inr}
@@ -18,33 +17,33 @@ use Rattle.standby.specs.Standby as standby
 use Rattle.standby.specs.Standby.Event.{ack}
 use Rattle.standby.proofs.Verdicts.{says-other}
 use Rattle.rack.specs.Clocks.{reads}
-use Rattle.rack.specs.Runs.{time, partyKey, statusKey, messageKey, sameNumbers, wasSent, put, posted, perform, inTime, readingsAt, rising, onClock, delivered, stateAfter, answerTo, isRun, ours}
+use Rattle.rack.specs.Runs.{time, partyKey, statusKey, messageKey, sameNumbers, wasSent, put, posted, perform, inTime, readingsAt, rising, onClock, delivered, stateAfter, answerTo, isRun}
 use Rattle.rack.specs.Runs.Event.{atStandby}
 use Rattle.rack.specs.Claims.{isRequest, sentBy, prompt, isBegin, ackFrom}
 use Rattle.rack.specs.Tables.{narrow, together, runOf, answersTo}
-use Rattle.rack.specs.Shown.{renewalFails, DeadToldAtTheWindow, renewed, AliveToldWhileDriving, bound, DetectsFrom, lastRequest, query, queriedAt, QueriedAt, BoundIsMet, BoundIsTight, asked, replies, JustInTime}
+use Rattle.rack.specs.Shown.{renewalFails, DeadToldAtTheWindow, renewed, AliveToldWhileDriving, lastRequest, query, queriedAt, BoundIsMet, BoundIsMissed, BoundIsTight, asked, replies, JustInTime}
 
 -- all that holds by computation
 record Computed : Type 0 where
   dead-told : DeadToldAtTheWindow
   alive-told : AliveToldWhileDriving
-  at-bound : BoundIsMet
-  before-bound : QueriedAt (bound narrow 2 1 - 1) Alive "alive"
-  not-before : DetectsFrom (λ f D. bound narrow f D - 1) ours narrow → ⊥
+  met : BoundIsMet
+  tight : BoundIsTight
   just-in-time : JustInTime
 
--- the recorder was registered after the first three events of that table
+-- In the runs of detection the recorder is registered behind the first three events. `DetectsFrom (bound s)` is `Detects`, its
+-- premises in one record.
 computed : Computed
 unfolding renewalFails renewed lastRequest query asked replies isRequest sentBy prompt isBegin ackFrom every some countWhere first ranges eachIn inRange refusalOf window members survives closes unlessRefused recorder.spaced recorder.form recorder.hasForm recorder.lackingFrom recorder.lacking recorder.kept recorder.advanced recorder.accepted recorder.registered recorder.standing recorder.tickEvent recorder.grantEvent recorder.driveEvent recorder.tickOf recorder.grantOf recorder.driveOf recorder.stepOf observer.form observer.hasForm observer.store observer.storeAll observer.stores observer.requestOf observer.cutOf observer.statusAt observer.checkOf observer.stepOf standby.isDead standby.isUnused standby.goodPlace standby.form standby.hasForm standby.beginOf standby.greatest standby.verdict standby.afterKeeping standby.ackWithin standby.stepWithin reads time partyKey statusKey messageKey sameNumbers wasSent put posted perform inTime readingsAt rising onClock delivered stateAfter answerTo isRun answersTo
 computed =
-    let met = runOf (queriedAt 16 Dead "dead") in
-    let missed = runOf (queriedAt 15 Alive "alive") in
-    let early : QueriedAt 15 Alive "alive" =
+    let late = runOf (queriedAt 16 Dead "dead") in
+    let early = runOf (queriedAt 15 Alive "alive") in
+    let missed : BoundIsMissed =
     record {
       as-written = record { accepted = refl; is-run = refl; answers = refl };
       supposed = record {
         is-run = refl;
-        registered = (take 8 missed, drop 8 missed, refl, refl);
+        registered = (take 8 early, drop 8 early, refl, refl);
         last-sent = refl;
         arrivals = refl;
         queried = refl;
@@ -56,11 +55,11 @@ computed =
     record {
       dead-told = record { accepted = refl; is-run = refl; answers = refl };
       alive-told = record { accepted = refl; is-run = refl; answers = refl };
-      at-bound = record {
+      met = record {
         as-written = record { accepted = refl; is-run = refl; answers = refl };
         supposed = record {
           is-run = refl;
-          registered = (take 8 met, drop 8 met, refl, refl);
+          registered = (take 8 late, drop 8 late, refl, refl);
           last-sent = refl;
           arrivals = refl;
           queried = refl;
@@ -69,11 +68,30 @@ computed =
           ends = inr (2, inl refl);
         };
       };
-      before-bound = early;
-      not-before = λ detects.
-          let told = detects together missed 2 1 [] (atStandby 15 15 (ack 0 14 2 Alive) ∷ []) (runOf (lastRequest 15 Alive))
-          (atStandby 15 15 (ack 1 14 0 Dead)) 15 14 (early .supposed) in
-          says-other (saysOf "alive" 2) (saysOf "dead" (told .0)) refl (told .1);
+      tight = record {
+        run = missed;
+        stated = λ rules s detects clocks run f D later between earlier ending g ts q.
+            detects clocks run f D (q .is-run) (q .registered) (q .last-sent) (q .arrivals)
+            later between earlier ending g ts (q .queried) (q .one-query) (q .begun) (q .ends);
+        as-stated = λ rules s detects clocks run f D is-run registered last-sent arrivals
+            later between earlier ending g ts queried one-query begun ends.
+            detects clocks run f D later between earlier ending g ts
+            (record {
+              is-run = is-run;
+              registered = registered;
+              last-sent = last-sent;
+              arrivals = arrivals;
+              queried = queried;
+              one-query = one-query;
+              begun = begun;
+              ends = ends;
+            });
+        not-before = λ detects.
+            let told =
+            detects together early 2 1 [] (atStandby 15 15 (ack 0 14 2 Alive) ∷ []) (runOf (lastRequest 15 Alive))
+            (atStandby 15 15 (ack 1 14 0 Dead)) 15 14 (missed .supposed) in
+            says-other (saysOf "alive" 2) (saysOf "dead" (told .0)) refl (told .1);
+      };
       just-in-time = record {
         no-slack = refl;
         in-time = record { accepted = refl; is-run = refl; answers = refl };
@@ -90,30 +108,10 @@ pub alive-told-while-driving : AliveToldWhileDriving
 alive-told-while-driving = computed .alive-told
 
 pub bound-is-met : BoundIsMet
-bound-is-met = computed .at-bound
+bound-is-met = computed .met
 
--- `DetectsFrom (bound s)` is `Detects`, its premises in one record
 pub bound-is-tight : BoundIsTight
-bound-is-tight =
-    record {
-      run = computed .before-bound;
-      stated = λ rules s detects clocks run f D later between earlier ending g ts q.
-          detects clocks run f D (q .is-run) (q .registered) (q .last-sent) (q .arrivals)
-          later between earlier ending g ts (q .queried) (q .one-query) (q .begun) (q .ends);
-      as-stated = λ rules s detects clocks run f D is-run registered last-sent arrivals later between earlier ending g ts queried one-query begun ends.
-          detects clocks run f D later between earlier ending g ts
-          (record {
-            is-run = is-run;
-            registered = registered;
-            last-sent = last-sent;
-            arrivals = arrivals;
-            queried = queried;
-            one-query = one-query;
-            begun = begun;
-            ends = ends;
-          });
-      not-before = computed .not-before;
-    }
+bound-is-tight = computed .tight
 
 pub just-in-time : JustInTime
 just-in-time = computed .just-in-time

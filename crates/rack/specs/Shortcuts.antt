@@ -47,8 +47,8 @@ pub record Unsafe (rules : Rules) (s : Settings) (clocks : Clocks) (theirs ourOw
 -- Observer 0 is one tick ahead. The standby's last ack comes at r - ts = 3.
 unfoldable pub askedTooEarly : (told : Said Spoken) → List Line
 askedTooEarly told =
-    -- observer 0 stores the deadline 11
     atRecorder 0 0 tick gets sends (LeaseRequest 1)
+    -- observer 0 stores the deadline 11
     ∷ atObserver 0 0 0 (request 1) gets sends (LeaseGrant 1)
     ∷ atRecorder 4 4 tick gets sends (LeaseRequest 2)
     -- observer 1 answers, and only then gets its first request
@@ -63,7 +63,7 @@ askedTooEarly told =
     ∷ atRecorder 10 9 drive gets says "running"
     ∷ []
 
--- W is the greatest window that is safe: with one tick more our rules are not.
+-- W is the greatest safe window: with one tick more our rules are not safe under these settings.
 abbrev pub WindowPlusOneUnsafe : Type 0
 WindowPlusOneUnsafe =
     Unsafe (oursWithin (λ s. window s + 1)) narrow (clocksAhead 0 0 (1 ∷ []))

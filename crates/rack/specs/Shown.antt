@@ -150,9 +150,13 @@ pub record QueriedAt (g : ℕ) (status : Status) (verdict : String) : Type 0 whe
 abbrev pub BoundIsMet : Type 0
 BoundIsMet = QueriedAt (bound narrow 2 1) Dead "dead"
 
--- Begun one tick before, it says alive. So `Detects`, which is `DetectsFrom` the bound, fails with a bound less by a tick.
+-- Begun one tick before, it says alive.
+abbrev pub BoundIsMissed : Type 0
+BoundIsMissed = QueriedAt (bound narrow 2 1 - 1) Alive "alive"
+
+-- So `Detects`, which is `DetectsFrom` the bound, fails with a bound less by a tick.
 pub record BoundIsTight : Type 0 where
-  pub run : QueriedAt (bound narrow 2 1 - 1) Alive "alive"
+  pub run : BoundIsMissed
   pub stated : (rules : Rules) (s : Settings) → Detects rules s → DetectsFrom (bound s) rules s
   pub as-stated : (rules : Rules) (s : Settings) → DetectsFrom (bound s) rules s → Detects rules s
   pub not-before : DetectsFrom (λ f D. bound narrow f D - 1) ours narrow → ⊥
