@@ -21,7 +21,7 @@ use Rattle.rack.specs.Runs.{time, partyKey, statusKey, messageKey, sameN
 use Rattle.rack.specs.Runs.Event.{atStandby}
 use Rattle.rack.specs.Claims.{isRequest, sentBy, prompt, isBegin, ackFrom}
 use Rattle.rack.specs.Tables.{narrow, together, runOf, answersTo}
-use Rattle.rack.specs.Shown.{renewalFails, DeadToldAtTheWindow, renewed, AliveToldWhileDriving, lastRequest, query, queriedAt, BoundIsMet, BoundIsMissed, BoundIsTight, asked, replies, JustInTime}
+use Rattle.rack.specs.Shown.{renewalFails, DeadToldAtTheWindow, renewed, AliveToldWhileDriving, lastRequest, query, queriedAt, BoundIsMet, BoundIsMissed, BoundIsTight, asked, replies, JustInTime, unheard, cutLate, begunAnew, PremisesNeeded}
 
 -- all that holds by computation
 record Computed : Type 0 where
@@ -30,11 +30,12 @@ record Computed : Type 0 where
   met : BoundIsMet
   tight : BoundIsTight
   just-in-time : JustInTime
+  needed : PremisesNeeded
 
 -- In the runs of detection the recorder is registered behind the first three events. `DetectsFrom (bound s)` is `Detects`, its
 -- premises in one record.
 computed : Computed
-unfolding renewalFails renewed lastRequest query asked replies isRequest sentBy prompt isBegin ackFrom every some countWhere first ranges eachIn inRange refusalOf window members survives closes unlessRefused recorder.spaced recorder.form recorder.hasForm recorder.lackingFrom recorder.lacking recorder.kept recorder.advanced recorder.accepted recorder.registered recorder.standing recorder.tickEvent recorder.grantEvent recorder.driveEvent recorder.tickOf recorder.grantOf recorder.driveOf recorder.stepOf observer.form observer.hasForm observer.store observer.storeAll observer.stores observer.requestOf observer.cutOf observer.statusAt observer.checkOf observer.stepOf standby.isDead standby.isUnused standby.goodPlace standby.form standby.hasForm standby.beginOf standby.greatest standby.verdict standby.afterKeeping standby.ackWithin standby.stepWithin reads time partyKey statusKey messageKey sameNumbers wasSent put posted perform inTime readingsAt rising onClock delivered stateAfter answerTo isRun answersTo
+unfolding renewalFails renewed lastRequest query asked replies unheard cutLate begunAnew isRequest sentBy prompt isBegin ackFrom every some countWhere first ranges eachIn inRange refusalOf window members survives closes unlessRefused recorder.spaced recorder.form recorder.hasForm recorder.lackingFrom recorder.lacking recorder.kept recorder.advanced recorder.accepted recorder.registered recorder.standing recorder.tickEvent recorder.grantEvent recorder.driveEvent recorder.tickOf recorder.grantOf recorder.driveOf recorder.stepOf observer.form observer.hasForm observer.store observer.storeAll observer.stores observer.requestOf observer.cutOf observer.statusAt observer.checkOf observer.stepOf standby.isDead standby.isUnused standby.goodPlace standby.form standby.hasForm standby.beginOf standby.greatest standby.verdict standby.afterKeeping standby.ackWithin standby.stepWithin reads time partyKey statusKey messageKey sameNumbers wasSent put posted perform inTime readingsAt rising onClock delivered stateAfter answerTo isRun answersTo
 computed =
     let late = runOf (queriedAt 16 Dead "dead") in
     let early = runOf (queriedAt 15 Alive "alive") in
@@ -99,6 +100,17 @@ computed =
         quorum = refl;
         too-late = record { accepted = refl; is-run = refl; answers = refl };
       };
+      needed = record {
+        unknown = record { accepted = refl; is-run = refl; answers = refl };
+        unheard-sent = refl;
+        unheard-prompt = refl;
+        alive = record { accepted = refl; is-run = refl; answers = refl };
+        cut-sent = refl;
+        cut-not-prompt = refl;
+        refused = record { accepted = refl; is-run = refl; answers = refl };
+        two-rounds = refl;
+        both-replied = refl;
+      };
     }
 
 pub dead-told-at-the-window : DeadToldAtTheWindow
@@ -115,3 +127,6 @@ bound-is-tight = computed .tight
 
 pub just-in-time : JustInTime
 just-in-time = computed .just-in-time
+
+pub premises-needed : PremisesNeeded
+premises-needed = computed .needed

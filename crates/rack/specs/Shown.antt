@@ -1,7 +1,7 @@
 -- The claims of demand 3 are not empty: single runs that meet what they suppose, at the margin. Each is shown by computation.
 use Prim.Native.Nat.{ℕ, _+_, _*_, _-_, _≤_}
 use Prim.Native.String.{String}
-use mathlib.Core.Bool.{true}
+use mathlib.Core.Bool.{true, false}
 use mathlib.Core.List.{List, [], _∷_, _++_}
 use mathlib.Core.Path.{_≡_}
 use lib.IntN.{pos}
@@ -13,9 +13,9 @@ use Rattle.settings.specs.Quorums.{closes}
 use Rattle.messages.specs.declared.Status.{Status}
 use Rattle.messages.specs.declared.Status.the-variants.{Alive, Dead}
 use Rattle.messages.specs.declared.Message.the-variants.{LeaseRequest, LeaseGrant, Check, CheckAck}
-use Rattle.messages.specs.Answers.{Spoken, sends, says, saysOf}
+use Rattle.messages.specs.Answers.{Spoken, refuses, sends, says, saysOf}
 use Rattle.recorder.specs.Recorder.Event.{tick, grant, drive}
-use Rattle.observer.specs.Observer.Event.{request, check}
+use Rattle.observer.specs.Observer.Event.{request, cut, check}
 use Rattle.standby.specs.Standby.Event.{begin, ack}
 use Rattle.rack.specs.Clocks.{Clocks}
 use Rattle.rack.specs.Runs.{Rules, ours, Event, stateAfter, answerTo, isRun}
@@ -189,3 +189,58 @@ pub record JustInTime : Type 0 where
   pub one-round : noBegin (runOf (replies (1100 + Δ usual) (saysOf "alive" 1))) ≡ true
   pub quorum : closes usual (ackers 1091 (1100 + Δ usual) (runOf (replies (1100 + Δ usual) (saysOf "alive" 1)))) ≡ true
   pub too-late : AsWritten ours usual together (asked ++ replies (1100 + Δ usual + 1) (says "late"))
+
+-- ---- What the claims suppose is needed
+
+-- No request arrives, so the recorder does not register.
+unfoldable pub unheard : (g : ℕ) → List Line
+unheard g =
+    atRecorder 0 0 tick gets sends (LeaseRequest 1)
+    ∷ atStandby g g begin gets sends (Check g)
+    ∷ atObserver 0 g g (check g) gets sends (CheckAck g 0 Dead)
+    ∷ atObserver 1 g g (check g) gets sends (CheckAck g 0 Dead)
+    ∷ atStandby g g (ack 0 g 0 Dead) gets says "waiting"
+    ∷ atStandby g g (ack 1 g 0 Dead) gets says "unknown"
+    ∷ []
+
+-- Request 2 arrives at time 10, more than D = 1 after its sending, and is cut after the store of the deadline 21.
+unfoldable pub cutLate : (g : ℕ) → List Line
+cutLate g =
+    atRecorder 0 0 tick gets sends (LeaseRequest 1)
+    ∷ atObserver 0 1 1 (request 1) gets sends (LeaseGrant 1)
+    ∷ atRecorder 1 1 (grant 0 1) gets says "running"
+    ∷ atRecorder 2 2 tick gets sends (LeaseRequest 2)
+    ∷ atObserver 0 10 10 (cut 2 1) gets says "cut"
+    ∷ atStandby g g begin gets sends (Check g)
+    ∷ atObserver 0 g g (check g) gets sends (CheckAck g 1 Alive)
+    ∷ atObserver 1 g g (check g) gets sends (CheckAck g 0 Dead)
+    ∷ atStandby g g (ack 0 g 1 Alive) gets says "waiting"
+    ∷ atStandby g g (ack 1 g 0 Dead) gets saysOf "alive" 1
+    ∷ []
+
+-- Behind `asked`: the second ack, in time, finds another round.
+unfoldable pub begunAnew : List Line
+begunAnew =
+    atObserver 0 1110 1110 (check 1091) gets sends (CheckAck 1091 1 Alive)
+    ∷ atObserver 1 1110 1110 (check 1091) gets sends (CheckAck 1091 1 Alive)
+    ∷ atStandby 1120 1120 (ack 0 1091 1 Alive) gets says "waiting"
+    ∷ atStandby 1130 1130 begin gets sends (Check 1130)
+    ∷ atStandby 1140 1140 (ack 1 1091 1 Alive) gets refuses 8
+    ∷ []
+
+-- Where one premise is lacking, the conclusion fails, though the query is begun at the bound and the replies come in time.
+pub record PremisesNeeded : Type 0 where
+  -- the recorder had registered
+  pub unknown : AsWritten ours narrow together (unheard (bound narrow 0 0))
+  pub unheard-sent : sentBy 0 (stateAfter ours narrow (runOf (unheard (bound narrow 0 0))) .history) ≡ true
+  pub unheard-prompt :
+      every (prompt 0 (stateAfter ours narrow (runOf (unheard (bound narrow 0 0))) .history)) (runOf (unheard (bound narrow 0 0))) ≡ true
+  -- no request arrives after D, one that is cut included
+  pub alive : AsWritten ours narrow together (cutLate (bound narrow 2 1))
+  pub cut-sent : sentBy 2 (stateAfter ours narrow (runOf (cutLate (bound narrow 2 1))) .history) ≡ true
+  pub cut-not-prompt :
+      every (prompt 1 (stateAfter ours narrow (runOf (cutLate (bound narrow 2 1))) .history)) (runOf (cutLate (bound narrow 2 1))) ≡ false
+  -- no new round is begun meanwhile
+  pub refused : AsWritten ours usual together (asked ++ begunAnew)
+  pub two-rounds : noBegin (runOf begunAnew) ≡ false
+  pub both-replied : closes usual (ackers 1091 (1100 + Δ usual) (runOf begunAnew)) ≡ true

@@ -1,6 +1,6 @@
 // Demand 3 of the customer: dead means dead. Theorems about runs of the very step definitions that the contracts of recorder,
 // observer and standby cite; no code that runs.
-ghost use Rattle.rack.specs.Shown.{DeadToldAtTheWindow, AliveToldWhileDriving, BoundIsMet, BoundIsTight, JustInTime};
+ghost use Rattle.rack.specs.Shown.{DeadToldAtTheWindow, AliveToldWhileDriving, BoundIsMet, BoundIsTight, JustInTime, PremisesNeeded};
 ghost use Rattle.rack.specs.Shortcuts.{WindowPlusOneUnsafe, TwoGrainsUnsafe, NoRoundingUnsafe, GrantFirstUnsafe, MajorityUnsafe, LatestFirstUnsafe};
 
 // ---- The claims are not empty: single runs, at the margin.
@@ -28,6 +28,11 @@ pub fn detection_bound_is_tight()
 // Without slack b, a round whose last reply comes at the timeliness bound ends; one tick later it may be late.
 pub fn one_exchange_just_in_time()
     ensures { λ _. ⌜ JustInTime ⌝ }
+{}
+
+// Without registration, with a late arrival or with a new round begun meanwhile, the second half of the demand fails.
+pub fn premises_are_needed()
+    ensures { λ _. ⌜ PremisesNeeded ⌝ }
 {}
 
 // ---- Shortcuts that look harmless are refuted, each by a run.
