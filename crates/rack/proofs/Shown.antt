@@ -1,11 +1,13 @@
 -- The runs of specs/Shown.antt: each table computes to what is written in it. Assumes nothing.
 use native.Mathlib.Nat.{le-refl}
-use mathlib.Core.List.{List, [], _∷_}
+use mathlib.Core.Bool.{Bool, true, false, _&&_, not}
+use mathlib.Core.List.{List, [], _∷_, _++_}
 use mathlib.Core.Logic.{inl, inr}
-use mathlib.Core.Path.{_≡_, refl}
+use mathlib.Core.Path.{_≡_, refl, sym, ap}
 use lib.ListN.{take, drop}
 use Rattle.words.specs.Lists.{every, some, countWhere}
 use Rattle.words.specs.Said.{first}
+use Rattle.words.proofs.Booleans.{both-hold, not-both}
 use Rattle.settings.specs.Settings.{ranges, eachIn, inRange, refusalOf, window}
 use Rattle.settings.specs.Quorums.{members, survives, closes}
 use Rattle.messages.specs.declared.Status.the-variants.{Alive, Dead}
@@ -17,11 +19,32 @@ use Rattle.standby.specs.Standby as standby
 use Rattle.standby.specs.Standby.Event.{ack}
 use Rattle.standby.proofs.Verdicts.{says-other}
 use Rattle.rack.specs.Clocks.{reads}
-use Rattle.rack.specs.Runs.{time, partyKey, statusKey, messageKey, sameNumbers, wasSent, put, posted, perform, inTime, readingsAt, rising, onClock, delivered, stateAfter, answerTo, isRun}
+use Rattle.rack.specs.Runs.{ours, Event, time, partyKey, statusKey, messageKey, sameNumbers, wasSent, put, posted, perform, inTime, readingsAt, rising, onClock, delivered, stateAfter, answerTo, isRun}
 use Rattle.rack.specs.Runs.Event.{atStandby}
 use Rattle.rack.specs.Claims.{isRequest, sentBy, prompt, isBegin, ackFrom}
 use Rattle.rack.specs.Tables.{narrow, together, runOf, answersTo}
 use Rattle.rack.specs.Shown.{renewalFails, DeadToldAtTheWindow, renewed, AliveToldWhileDriving, lastRequest, query, queriedAt, BoundIsMet, BoundIsMissed, BoundIsTight, asked, replies, JustInTime, unheard, cutLate, begunAnew, PremisesNeeded}
+
+-- whether the recorder is registered behind this past
+abbrev registeredBehind : List Event → Bool
+registeredBehind past = recorder.registered narrow (stateAfter ours narrow past .recorder)
+
+-- neither behind this past nor behind any part of it
+unfoldable neverRegistered : List Event → Bool
+neverRegistered [] = not (registeredBehind [])
+neverRegistered (e ∷ past) = not (registeredBehind (e ∷ past)) && neverRegistered past
+
+not-and-so : (b : Bool) → not b ≡ true → b ≡ true → ⊥
+not-and-so true n y = not-both y (sym n)
+not-and-so false n y = not-both y refl
+
+never-registered : (later past : List Event) → neverRegistered (later ++ past) ≡ true → registeredBehind past ≡ true → ⊥
+unfolding neverRegistered
+never-registered [] [] never r = not-and-so (registeredBehind []) never r
+never-registered [] (e ∷ past) never r =
+    not-and-so (registeredBehind (e ∷ past)) (both-hold (not (registeredBehind (e ∷ past))) (neverRegistered past) never .0) r
+never-registered (e ∷ later) past never r =
+    never-registered later past (both-hold (not (registeredBehind (e ∷ (later ++ past)))) (neverRegistered (later ++ past)) never .1) r
 
 -- all that holds by computation
 record Computed : Type 0 where
@@ -35,7 +58,7 @@ record Computed : Type 0 where
 -- In the runs of detection the recorder is registered behind the first three events. `DetectsFrom (bound s)` is `Detects`, its
 -- premises in one record.
 computed : Computed
-unfolding renewalFails renewed lastRequest query asked replies unheard cutLate begunAnew isRequest sentBy prompt isBegin ackFrom every some countWhere first ranges eachIn inRange refusalOf window members survives closes unlessRefused recorder.spaced recorder.form recorder.hasForm recorder.lackingFrom recorder.lacking recorder.kept recorder.advanced recorder.accepted recorder.registered recorder.standing recorder.tickEvent recorder.grantEvent recorder.driveEvent recorder.tickOf recorder.grantOf recorder.driveOf recorder.stepOf observer.form observer.hasForm observer.store observer.storeAll observer.stores observer.requestOf observer.cutOf observer.statusAt observer.checkOf observer.stepOf standby.isDead standby.isUnused standby.goodPlace standby.form standby.hasForm standby.beginOf standby.greatest standby.verdict standby.afterKeeping standby.ackWithin standby.stepWithin reads time partyKey statusKey messageKey sameNumbers wasSent put posted perform inTime readingsAt rising onClock delivered stateAfter answerTo isRun answersTo
+unfolding neverRegistered renewalFails renewed lastRequest query asked replies unheard cutLate begunAnew isRequest sentBy prompt isBegin ackFrom every some countWhere first ranges eachIn inRange refusalOf window members survives closes unlessRefused recorder.spaced recorder.form recorder.hasForm recorder.lackingFrom recorder.lacking recorder.kept recorder.advanced recorder.accepted recorder.registered recorder.standing recorder.tickEvent recorder.grantEvent recorder.driveEvent recorder.tickOf recorder.grantOf recorder.driveOf recorder.stepOf observer.form observer.hasForm observer.store observer.storeAll observer.stores observer.requestOf observer.cutOf observer.statusAt observer.checkOf observer.stepOf standby.isDead standby.isUnused standby.goodPlace standby.form standby.hasForm standby.beginOf standby.greatest standby.verdict standby.afterKeeping standby.ackWithin standby.stepWithin reads time partyKey statusKey messageKey sameNumbers wasSent put posted perform inTime readingsAt rising onClock delivered stateAfter answerTo isRun answersTo
 computed =
     let late = runOf (queriedAt 16 Dead "dead") in
     let early = runOf (queriedAt 15 Alive "alive") in
@@ -102,6 +125,7 @@ computed =
       };
       needed = record {
         unknown = record { accepted = refl; is-run = refl; answers = refl };
+        not-registered = λ r. never-registered (r .0) (r .1) (sym (ap neverRegistered (r .2))) (r .3);
         unheard-sent = refl;
         unheard-prompt = refl;
         alive = record { accepted = refl; is-run = refl; answers = refl };

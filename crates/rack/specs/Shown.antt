@@ -232,6 +232,7 @@ begunAnew =
 pub record PremisesNeeded : Type 0 where
   -- the recorder had registered
   pub unknown : AsWritten ours narrow together (unheard (bound narrow 0 0))
+  pub not-registered : RegisteredIn ours narrow (runOf (unheard (bound narrow 0 0))) → ⊥
   pub unheard-sent : sentBy 0 (stateAfter ours narrow (runOf (unheard (bound narrow 0 0))) .history) ≡ true
   pub unheard-prompt :
       every (prompt 0 (stateAfter ours narrow (runOf (unheard (bound narrow 0 0))) .history)) (runOf (unheard (bound narrow 0 0))) ≡ true
