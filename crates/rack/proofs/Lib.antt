@@ -11,3 +11,5 @@ pub mod Safety
 pub mod Rounds
 pub mod Detection
 pub mod Exchange
+pub mod Shown
+pub mod Shortcuts

@@ -2,3 +2,6 @@
 pub mod Clocks
 pub mod Runs
 pub mod Claims
+pub mod Tables
+pub mod Shown
+pub mod Shortcuts
