@@ -9,7 +9,7 @@ use lib.ListN.{drop, getD, length-set}
 use lib.Seq.{drop-set-lt}
 use borrow.Author.Tests.{leb-true, le-leb, eqb-true, not-true}
 use Rattle.words.specs.Tests.{_≤?_, _=?_}
-use Rattle.words.specs.Lists.{every, some}
+use Rattle.words.specs.Lists.{every}
 use Rattle.words.specs.Said.Said.{gives}
 use Rattle.words.proofs.Booleans.{both-hold, not-both, whether}
 use Rattle.words.proofs.Walks.{every-at, every-set, every-drop, every-same}
@@ -25,8 +25,9 @@ use Rattle.messages.specs.Answers.{Spoken, refuses}
 use Rattle.messages.specs.Outcomes.{Outcome}
 use Rattle.standby.specs.declared.Place.{Place}
 use Rattle.standby.specs.declared.Standby.{Standby}
-use Rattle.standby.specs.Standby.{hasForm, form, isOpen, lastReading, isDead, isUnused, goodPlace, unused, noPlaces, keptMarks, closed, atReading, keeping, beginRefusals, ackRefusals, pollRefusals, beginOf, ackWithin, pollWithin, afterKeeping, isLate, greatest, saysDead, verdict, Event, begin, ack, poll, stepWithin}
+use Rattle.standby.specs.Standby.{hasForm, form, isOpen, lastReading, isDead, isUnused, goodPlace, unused, noPlaces, keptMarks, closed, atReading, keeping, beginRefusals, ackRefusals, pollRefusals, beginOf, ackWithin, pollWithin, afterKeeping, isLate, verdict, Event, begin, ack, poll, stepWithin}
 use Rattle.standby.specs.Claims.{Sized, FormIsKept, ClosedIsZero}
+use Rattle.standby.proofs.Verdicts.{by-verdict}
 use Rattle.standby.proofs.Refusals.{unless-refused, Admitted, begin-admitted, poll-admitted, ack-counted}
 
 -- the six conditions of the form
@@ -179,11 +180,8 @@ spoken : (a : Spoken) → gives a ≡ refuses 3 → ⊥
 spoken a e = let z : _≡_ {A = ℕ} 0 1 = cc in omega arith
 
 verdict-spoken : (places : List Place) → verdict places ≡ refuses 3 → ⊥
-unfolding verdict
 verdict-spoken places =
-    whether (λ said. said ≡ refuses 3 → ⊥) (greatest places =? 0) _ _
-    (λ zero. spoken _)
-    (λ some-counter. whether (λ said. said ≡ refuses 3 → ⊥) (some (saysDead (greatest places)) places) _ _ (λ dead. spoken _) (λ alive. spoken _))
+    by-verdict (λ said. said ≡ refuses 3 → ⊥) places (λ zero. spoken _) (λ positive dead. spoken _) (λ positive alive. spoken _)
 
 no-three : (w : ℕ) (s : Settings) (q : Standby) (r : ℕ) (event : Event) → hasForm s q ≡ true → NotThree (stepWithin w s q r event)
 unfolding stepWithin beginOf pollWithin ackWithin afterKeeping every
