@@ -40,7 +40,6 @@ fn settings_refused() {
 
 fn forms() {
     let s = steps::own();
-    let top = 1099511627776;
     steps::request(
         b"request, latest without deadline",
         s,
@@ -50,6 +49,12 @@ fn forms() {
         5,
     );
     steps::check(b"check, latest without deadline", s, formless(), 0, 2000, 5);
+}
+
+// A record with one number just outside its range.
+fn ranges() {
+    let s = steps::own();
+    let top = 1099511627776;
     steps::check(
         b"check, latest 2^40 + 1",
         s,
@@ -167,6 +172,7 @@ fn other_pairs() {
 pub fn cases() {
     settings_refused();
     forms();
+    ranges();
     readings();
     numbers_and_counters();
     pairs_with_settings();
