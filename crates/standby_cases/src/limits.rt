@@ -167,7 +167,8 @@ fn placed(name: &[u8], open_flag: bool, x: usize, kept: bool, counter: u64, stat
     show::line(name, standby::poll(settings_of(3, 2, 159), q, 40));
 }
 
-fn forms() {
+// Places that have the form, and places that lack it.
+fn places() {
     placed(b"kept of 2", true, 2, true, 5, Status::Dead);
     placed(b"kept of 3", true, 3, true, 5, Status::Dead);
     placed(b"kept, closed", false, 2, true, 5, Status::Dead);
@@ -190,6 +191,10 @@ fn forms() {
         TOP_COUNTER + 1,
         Status::Alive,
     );
+}
+
+// Records whose numbers do not fit each other.
+fn forms() {
     let s = settings_of(3, 2, 159);
     show::line(
         b"ts at the last reading",
@@ -220,5 +225,6 @@ pub fn cases() {
     one_is_enough();
     readings();
     counters();
+    places();
     forms();
 }
