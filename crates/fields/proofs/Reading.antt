@@ -8,10 +8,9 @@ use mathlib.Core.List.{List, [], _∷_, _++_, append-assoc}
 use lib.Dec.{leb}
 use lib.ListN.{length, getD, drop, length-append}
 use lib.Seq.{drop-append-seam}
-use borrow.Author.Tests.{lt-ltb, le-ltb, leb-true, eq-eqb, ltb-true, ltb-false, le-leb, ne-eqb, eqb-true, eqb-false}
+use borrow.Author.Tests.{le-ltb, leb-true, eq-eqb, ltb-false, le-leb, ne-eqb, eqb-true, eqb-false}
 use Rattle.words.specs.Tests.{if_then_else_, _<?_, _=?_}
 use Rattle.words.proofs.Booleans.{not-both, both-hold, neither-holds}
-use Rattle.fields.specs.declared.Number.{Number}
 use Rattle.fields.specs.declared.Number.the-variants.{Value, Bad}
 use Rattle.fields.specs.Decimals.{isDigit, digitsIn, digits, readOn, numberAt}
 use Rattle.fields.proofs.Digits.{by-size, tenth, one-digit, last-digit, digits-one, digits-more}

@@ -1,5 +1,5 @@
 -- The starred lines hold: every row computes to what is written. Assumes nothing.
-use mathlib.Core.Path.{_≡_, refl}
+use mathlib.Core.Path.{refl}
 use Rattle.words.specs.Lists.{every, some, countWhere}
 use Rattle.words.specs.Said.{number, first}
 use Rattle.settings.specs.Settings.{ranges, eachIn, inRange, refusalOf, window}

@@ -2,14 +2,14 @@
 use Prim.Native.Nat.{ℕ}
 use Prim.Native.String.{String}
 use mathlib.Core.List.{List, [], _∷_, map}
-use mathlib.Core.Bool.{true, false}
+use mathlib.Core.Bool.{true}
 use mathlib.Core.Path.{_≡_}
 use lib.IntN.{ℤ, pos, negsuc}
 use lib.ListN.{set}
 use Rattle.words.specs.Lists.{text}
 use Rattle.words.specs.Said.{Said, number as numberOf}
 use Rattle.settings.specs.declared.Settings.{Settings}
-use Rattle.settings.specs.Settings.{slackA, slackB, slackC, window, refusalOf}
+use Rattle.settings.specs.Settings.{settings, usual, slackA, slackB, slackC, window, refusalOf}
 use Rattle.messages.specs.declared.Status.{Status}
 use Rattle.messages.specs.declared.Status.the-variants.{Alive, Dead}
 use Rattle.messages.specs.Messages.{Field}
@@ -17,7 +17,6 @@ use Rattle.messages.specs.Messages.Field.{word, number}
 use Rattle.messages.specs.Answers.{Spoken, spokenFields}
 use Rattle.observer.specs.declared.Observer.{Observer}
 use Rattle.observer.specs.Observer.{requestOf, cutOf, checkOf}
-use Rattle.standby.specs.declared.Place.{Place}
 use Rattle.standby.specs.declared.Standby.{Standby}
 use Rattle.standby.specs.Standby.{noPlaces, ackOf}
 
@@ -37,22 +36,6 @@ answers answer k fields =
 
 abbrev pub minus1 : ℤ
 minus1 = negsuc 0
-
-abbrev pub settings : (n t η Δ P O G : ℕ) → Settings
-settings n t η Δ P O G =
-    record {
-      observers = n;
-      survival = t;
-      interval = η;
-      timeliness = Δ;
-      «recorder_lease» = P;
-      «observer_lease» = O;
-      grain = G;
-    }
-
--- the settings of 01's whole case
-abbrev pub usual : Settings
-usual = settings 3 2 100 40 159 235 10
 
 abbrev pub slacks : Settings → List ℤ
 slacks s = slackA s ∷ slackB s ∷ slackC s ∷ pos (refusalOf s) ∷ []

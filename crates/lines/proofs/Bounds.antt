@@ -8,7 +8,6 @@ use lib.ListN.{length, length-append}
 use borrow.Author.Tests.{leb-true, ltb-true}
 use Rattle.words.specs.Tests.{if_then_else_, _<?_, _≤?_}
 use Rattle.words.specs.Lists.{text}
-use Rattle.words.specs.Said.{Said}
 use Rattle.words.specs.Said.Said.{refusal, gives}
 use Rattle.words.proofs.Booleans.{both-hold}
 use Rattle.fields.specs.Decimals.{digits, digitsIn}

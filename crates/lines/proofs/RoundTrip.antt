@@ -1,16 +1,14 @@
 -- Reading and writing message lines undo one another. Assumes nothing.
 use Prim.Native.Nat.{ℕ, zero, suc, _+_, _-_, _^_, _≤_, _<_}
 use native.Mathlib.Omega.{arith}
-use mathlib.Core.Path.{_≡_, refl, sym, ap, _∙_, subst}
+use mathlib.Core.Path.{_≡_, refl, sym, ap, _∙_}
 use mathlib.Core.Bool.{Bool, true, false, _&&_, not}
 use mathlib.Core.List.{List, [], _∷_, _++_, append-assoc, append-nil}
-use lib.Dec.{T}
-use lib.ListN.{length, take, drop, getD, length-append, length-drop, drop-of-length-le}
-use lib.Seq.{take-append-seam, drop-append-seam, drop-length}
-use borrow.Author.Tests.{le-leb, leb-true, ltb-true, ltb-false, lt-ltb, le-ltb, eqb-true}
+use lib.ListN.{length, drop, drop-of-length-le}
+use lib.Seq.{take-append-seam, drop-append-seam}
+use borrow.Author.Tests.{le-leb, leb-true, eqb-true}
 use Rattle.words.specs.Tests.{if_then_else_, _<?_, _≤?_, _=?_}
 use Rattle.words.specs.Lists.{text}
-use Rattle.words.specs.Said.{Said}
 use Rattle.words.proofs.Booleans.{not-both, both-hold}
 use Rattle.words.specs.Said.Said.{refusal, gives}
 use Rattle.fields.specs.declared.Number.{Number}
@@ -25,9 +23,9 @@ use Rattle.messages.specs.declared.Message.{Message}
 use Rattle.messages.specs.declared.Message.the-variants.{LeaseRequest, LeaseGrant, Check, CheckAck}
 use Rattle.messages.specs.Messages.{topCounter, topReading, fieldsOf, statusWord, hasForm}
 use Rattle.lines.specs.Reading.{begins, isExactly, ended, onlyNumber, oneOf, readAckStatus, statusBehind, readAckCounter, counterBehind, readAck, readLine}
-use Rattle.lines.specs.Writing.{fitting, filled, bytesOf, joined, lineOf, ackLine, writeSaid, writeRoom}
+use Rattle.lines.specs.Writing.{fitting, filled, bytesOf, joined, lineOf, writeSaid, writeRoom}
 use Rattle.lines.specs.Claims.{WrittenIsRead, ReadIsWritten}
-use Rattle.lines.proofs.Lines.{fits-said, fits-room, short-said, request-line, grant-line, check-line, alive-line, dead-line}
+use Rattle.lines.proofs.Lines.{fits-said, fits-room, request-line, grant-line, check-line}
 
 -- a refusal gives nothing
 no-gift : {A B : Type 0} {k : ℕ} {a : A} → refusal k ≡ gives a → B

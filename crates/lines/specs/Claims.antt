@@ -4,7 +4,6 @@ use mathlib.Core.List.{List, _++_}
 use mathlib.Core.Path.{_≡_}
 use lib.ListN.{length, take, drop}
 use Rattle.words.specs.Said.Said.{refusal, gives}
-use Rattle.words.specs.Said.{Said}
 use Rattle.messages.specs.declared.Message.{Message}
 use Rattle.lines.specs.Reading.{readLine}
 use Rattle.lines.specs.Writing.{writeSaid, writeRoom}

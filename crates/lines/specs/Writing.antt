@@ -1,6 +1,6 @@
 -- Writing a message line: "words and numbers parted by one tab, ended by one line feed".
 use Prim.Native.Nat.{ℕ}
-use mathlib.Core.Bool.{Bool, not}
+use mathlib.Core.Bool.{not}
 use mathlib.Core.List.{List, [], _∷_, _++_, map}
 use lib.ListN.{length, drop}
 use Rattle.words.specs.Tests.{if_then_else_, _<?_}

@@ -6,10 +6,9 @@ use mathlib.Core.List.{List, [], _∷_}
 use mathlib.Core.Path.{_≡_, refl, sym, ap, ap₂, _∙_}
 use Rattle.words.specs.Tests.{if_then_else_, _=?_}
 use Rattle.words.specs.Lists.{text}
-use Rattle.words.specs.Said.{Said, number as numberOf}
+use Rattle.words.specs.Said.{number as numberOf}
 use Rattle.messages.specs.declared.Status.{Status}
 use Rattle.messages.specs.declared.Status.the-variants.{Alive as AliveStatus, Dead as DeadStatus}
-use Rattle.messages.specs.declared.Message.{Message}
 use Rattle.messages.specs.declared.Message.the-variants.{LeaseRequest, LeaseGrant, Check, CheckAck}
 use Rattle.messages.specs.declared.Answer.{Answer}
 use Rattle.messages.specs.declared.Answer.the-variants.{Refused, Send, Unregistered, Running, Stopped, Silent, Cut, Waiting, Late, Unknown, Dead, Alive}

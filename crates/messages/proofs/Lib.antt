@@ -1,2 +1,3 @@
+-- Laws of the answers and of what a refused step leaves, for the crates above.
 pub mod Apart
 pub mod Outcomes

@@ -1,14 +1,14 @@
 -- What every step of the observer keeps, whatever its event. A refused step hands the record back, so each claim covers it too.
 use Prim.Native.Nat.{ℕ, _+_, _≤_}
-use mathlib.Core.Bool.{Bool, true, false}
+use mathlib.Core.Bool.{true}
 use mathlib.Core.Path.{_≡_}
 use Rattle.settings.specs.declared.Settings.{Settings}
 use Rattle.settings.specs.Settings.{O}
-use Rattle.messages.specs.declared.Status.the-variants.{Alive, Dead}
-use Rattle.messages.specs.declared.Message.the-variants.{LeaseGrant, CheckAck}
+use Rattle.messages.specs.declared.Status.the-variants.{Dead}
+use Rattle.messages.specs.declared.Message.the-variants.{LeaseGrant}
 use Rattle.messages.specs.Answers.{refuses, sends}
 use Rattle.observer.specs.declared.Observer.{Observer}
-use Rattle.observer.specs.Observer.{hasForm, statusAt, restartOf, Event, request, cut, check, stepOf, fresh}
+use Rattle.observer.specs.Observer.{hasForm, statusAt, restartOf, Event, stepOf, fresh}
 
 -- A fresh record has the form, and every step and every restart leaves a record of the form.
 pub record FormIsKept : Type 0 where

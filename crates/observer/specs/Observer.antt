@@ -41,14 +41,13 @@ hasForm s o = every (λ condition. condition) (form s o)
 
 -- ---- Refusals, in the table's order. x is the observer's own number.
 
+-- 1 to 5, which every step has; `bad` is the step's own condition of 4
+abbrev pub sharedRefusals : Settings → Observer → (x : ℕ) → (bad : Bool) → List Refusal
+sharedRefusals s o x bad = refusals s ++ (3 when not (hasForm s o) ∷ 4 when bad ∷ 5 when (n s ≤? x) ∷ [])
+
 abbrev pub requestRefusals : Settings → Observer → (x r c : ℕ) → List Refusal
 requestRefusals s o x r c =
-    refusals s
-    ++ (3 when not (hasForm s o)
-    ∷ 4 when badReading (lastReading o) r
-    ∷ 5 when (n s ≤? x)
-    ∷ 6 when ((c =? 0) || (topCounter <? c))
-    ∷ [])
+    sharedRefusals s o x (badReading (lastReading o) r) ++ (6 when ((c =? 0) || (topCounter <? c)) ∷ [])
 
 -- "a step's cut above 2"
 abbrev pub cutRefusals : Settings → Observer → (x r c k : ℕ) → List Refusal
@@ -56,12 +55,7 @@ cutRefusals s o x r c k = requestRefusals s o x r c ++ (9 when (2 <? k) ∷ [])
 
 -- "a reading or a round's ts out of range"
 abbrev pub checkRefusals : Settings → Observer → (x r ts : ℕ) → List Refusal
-checkRefusals s o x r ts =
-    refusals s
-    ++ (3 when not (hasForm s o)
-    ∷ 4 when (badReading (lastReading o) r || (topReading <? ts))
-    ∷ 5 when (n s ≤? x)
-    ∷ [])
+checkRefusals s o x r ts = sharedRefusals s o x (badReading (lastReading o) r || (topReading <? ts))
 
 -- ---- Stores
 

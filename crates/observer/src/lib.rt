@@ -5,7 +5,6 @@ use messages::Message;
 use messages::Status;
 use settings::Settings;
 ghost use mathlib.Core.Path.{_≡_};
-ghost use mathlib.Core.Bool.{Bool};
 ghost use Prim.Native.Nat.{_≤_};
 ghost use lib.ListN.{take};
 ghost use Rattle.words.specs.Said.{first};
@@ -13,8 +12,8 @@ ghost use Rattle.settings.specs.Settings.{InRange};
 ghost use Rattle.messages.specs.Messages.{topReading};
 ghost use Rattle.messages.specs.Answers.{refuses};
 ghost use Rattle.messages.specs.Outcomes.{_leaving_};
-ghost use Rattle.observer.specs.Observer.{atReading, hasForm, requestRefusals, cutRefusals, checkRefusals, Store, store, storeAll, stores, requestOf, cutOf, statusAt, checkOf, restartOf};
-ghost use Rattle.observer.specs.Outcome.{outcome, sharedRefusals};
+ghost use Rattle.observer.specs.Observer.{atReading, hasForm, sharedRefusals, requestRefusals, cutRefusals, checkRefusals, Store, store, storeAll, stores, requestOf, cutOf, statusAt, checkOf, restartOf};
+ghost use Rattle.observer.specs.Outcome.{outcome};
 ghost use Rattle.observer.specs.Claims.{FormIsKept, LatestNeverFalls, DeadlineFirst, GrantIsStored, DeadFromDeadline};
 
 pub struct Observer {

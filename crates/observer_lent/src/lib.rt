@@ -6,7 +6,6 @@ use observer::Observer;
 use observer::Stepped;
 use settings::Settings;
 ghost use mathlib.Core.Path.{_≡_};
-ghost use mathlib.Core.Bool.{Bool};
 ghost use Rattle.messages.specs.Answers.{said};
 ghost use Rattle.messages.specs.Outcomes.{_leaving_};
 ghost use Rattle.observer.specs.Observer.{Store, store, atReading, requestOf, cutOf, checkOf};

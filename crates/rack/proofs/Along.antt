@@ -4,10 +4,10 @@ use native.Mathlib.Omega.{arith}
 use native.Mathlib.Nat.{le-trans, le-refl}
 use mathlib.Core.Path.{_≡_, refl, sym, ap, _∙_}
 use mathlib.Core.Bool.{Bool, true, false, _&&_, _||_, not}
-use mathlib.Core.List.{List, [], _∷_, _++_}
-use mathlib.Core.Logic.{_⊎_, inl, inr, ⊎-elim}
+use mathlib.Core.List.{List, [], _∷_}
+use mathlib.Core.Logic.{inl, inr}
 use lib.ListN.{length, getD, replicate}
-use borrow.Author.Tests.{leb-true, eqb-true, eqb-false, eq-eqb, ne-eqb}
+use borrow.Author.Tests.{leb-true, eq-eqb}
 use Rattle.words.specs.Tests.{if_then_else_, _=?_, _<?_, _≤?_}
 use Rattle.words.specs.Lists.{every}
 use Rattle.words.specs.Said.{Said}
@@ -19,14 +19,14 @@ use Rattle.messages.specs.Messages.{topReading}
 use Rattle.messages.specs.Answers.{Spoken, refuses, sends, says, saysOf}
 use Rattle.messages.specs.Answers.Spoken.{message, wordWith}
 use Rattle.messages.specs.declared.Message.the-variants.{LeaseRequest, LeaseGrant}
-use Rattle.messages.specs.Outcomes.{Outcome, _leaving_}
+use Rattle.messages.specs.Outcomes.{_leaving_}
 use Rattle.messages.proofs.Outcomes.{either-way}
 use Rattle.recorder.specs.declared.Recorder.{Recorder}
 use Rattle.recorder.specs.Recorder.{Event as RecorderEvent, fresh as freshRecorder, stepOf as recorderStep, advanced, due, requesting, granting, granted, registered, standing, tickEvent, grantEvent, driveEvent}
 use Rattle.recorder.specs.Recorder.Event.{tick, grant, drive}
 use Rattle.recorder.proofs.Grants.{granted-at}
-use Rattle.recorder.proofs.Ways.{eventOf, Ways, each-way}
-use Rattle.recorder.proofs.Keeping.{Good, form-is-kept}
+use Rattle.recorder.proofs.Ways.{eventOf, each-way}
+use Rattle.recorder.proofs.Keeping.{form-is-kept}
 use Rattle.recorder.proofs.Formed.{formed}
 use Rattle.observer.specs.declared.Observer.{Observer}
 use Rattle.observer.specs.Observer.{Event as ObserverEvent, stepOf as observerStep, requestRefusals, cutRefusals, checkRefusals, requestOf, cutOf, checkOf}
@@ -35,17 +35,16 @@ use Rattle.observer.proofs.Laws.{form-is-kept as observer-form}
 use Rattle.standby.specs.Standby.{Event as StandbyEvent, stepWithin, noPlaces}
 use Rattle.standby.proofs.Forms.{form-is-kept as standby-form}
 use Rattle.rack.specs.Clocks.{Clocks, reads}
-use Rattle.rack.specs.Runs.{Rules, oursWithin, Event, time, Party, partyKey, State, start, perform, posted, inTime, Reading, readingsAt, rising, onClock, delivered, stateAfter, answerTo, isRun}
+use Rattle.rack.specs.Runs.{Rules, oursWithin, Event, time, partyKey, perform, inTime, Reading, readingsAt, rising, onClock, delivered, stateAfter, answerTo, isRun}
 use Rattle.rack.specs.Runs.Event.{atRecorder, atObserver, atStandby, crash}
 use Rattle.rack.specs.Runs.Party.{recorder, standby, observer}
-use Rattle.rack.proofs.Clocks.{Reads, is-reading}
-use Rattle.rack.proofs.History.{All, none}
-use Rattle.rack.proofs.Ghost.{By, Ghost}
+use Rattle.rack.proofs.Clocks.{is-reading}
+use Rattle.rack.proofs.History.{none}
 use Rattle.rack.proofs.Steps.{Arrives}
-use Rattle.rack.proofs.Invariant.{RecorderPart, ObserverPart, StandbyPart, Marks, Inv}
-use Rattle.rack.proofs.AtRecorder.{afterRecorder, recorder-kept}
-use Rattle.rack.proofs.AtObserver.{afterObserver, observer-kept, crash-kept}
-use Rattle.rack.proofs.AtStandby.{afterStandby, ShowsFrom, standby-kept, none-kept}
+use Rattle.rack.proofs.Invariant.{Marks, Inv}
+use Rattle.rack.proofs.AtRecorder.{recorder-kept}
+use Rattle.rack.proofs.AtObserver.{observer-kept, crash-kept}
+use Rattle.rack.proofs.AtStandby.{ShowsFrom, standby-kept, none-kept}
 
 -- ---- time and readings so far
 
@@ -200,7 +199,7 @@ module _ (s : Settings) (ok : refusalOf s ≡ 0) (w : Settings → ℕ) (window-
   unfolding nowOf topOf stateAfter
   at-first =
       let f = form-is-kept .at-first s in
-      let q = standby-form .at-first s ok in
+      let q = standby-form .at-first s in
       record {
         gh = record { S = λ c. 0; σ = λ c. 0; h = 0; reached = [] };
         recorder-part = record {

@@ -1,17 +1,17 @@
 -- An event at an observer, and a crash of one, keep the invariant. Assumes nothing.
-use Prim.Native.Nat.{ℕ, zero, suc, _+_, _-_, _*_, _≤_, _<_}
+use Prim.Native.Nat.{ℕ, _+_, _-_, _≤_, _<_}
 use native.Mathlib.Omega.{arith}
 use native.Mathlib.Nat.{le-trans, le-refl}
-use mathlib.Core.Path.{_≡_, refl, sym, ap, _∙_}
+use mathlib.Core.Path.{_≡_, refl, sym, _∙_}
 use mathlib.Core.Bool.{Bool, true, false}
-use mathlib.Core.List.{List, [], _∷_}
+use mathlib.Core.List.{_∷_}
 use mathlib.Core.Logic.{_⊎_, inl, inr, ⊎-elim}
 use borrow.Author.Tests.{leb-true, leb-false, eqb-true, eqb-false}
 use Rattle.words.specs.Tests.{if_then_else_, _=?_, _≤?_}
 use Rattle.words.specs.Said.{Said}
 use Rattle.settings.specs.declared.Settings.{Settings}
-use Rattle.settings.specs.Settings.{P, O, rounding, refusalOf}
-use Rattle.settings.proofs.Laws.{accepted, accepted-in-range}
+use Rattle.settings.specs.Settings.{O, rounding, refusalOf}
+use Rattle.settings.proofs.Laws.{accepted}
 use Rattle.messages.specs.declared.Status.{Status}
 use Rattle.messages.specs.declared.Status.the-variants.{Alive, Dead}
 use Rattle.messages.specs.declared.Message.{Message}
@@ -23,14 +23,14 @@ use Rattle.observer.specs.Observer.{Event, stepOf, statusAt, restartOf, hasForm
 use Rattle.observer.specs.Observer.Event.{request, cut, check}
 use Rattle.observer.proofs.Laws.{dead-from-deadline, form-is-kept}
 use Rattle.rack.specs.Clocks.{Clocks}
-use Rattle.rack.specs.Runs.{State, Sent, Party, partyKey, put, posted, delivered, wasSent}
+use Rattle.rack.specs.Runs.{State, partyKey, put, posted, delivered, wasSent}
 use Rattle.rack.specs.Runs.Event.{atObserver}
 use Rattle.rack.specs.Runs.Party.{recorder, standby, observer}
 use Rattle.rack.proofs.Clocks.{Reads, lower, lease-passed}
-use Rattle.rack.proofs.History.{All, sent-has, posted-all}
-use Rattle.rack.proofs.Ghost.{By, Ghost, Reach, Extends, stays, AckFact, Behind, StoreFact, history-on, ack-on, doomed-on}
+use Rattle.rack.proofs.History.{sent-has, posted-all}
+use Rattle.rack.proofs.Ghost.{By, Ghost, Extends, stays, AckFact, Behind, history-on, ack-on, doomed-on}
 use Rattle.rack.proofs.Steps.{Arrives, ObserverStep, observer-step}
-use Rattle.rack.proofs.Invariant.{RecorderPart, ObserverPart, Marks, Inv, observer-on, standby-on, recorder-on}
+use Rattle.rack.proofs.Invariant.{ObserverPart, Marks, Inv, observer-on, standby-on, recorder-on}
 
 -- the state after observer x has changed
 abbrev pub afterObserver : State → (x g : ℕ) → Observer → Said Spoken → State

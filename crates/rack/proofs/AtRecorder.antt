@@ -1,35 +1,33 @@
 -- An event at the recorder keeps the invariant. Assumes nothing.
-use Prim.Native.Nat.{ℕ, zero, suc, _+_, _-_, _≤_, _<_}
+use Prim.Native.Nat.{ℕ, _+_, _-_, _≤_, _<_}
 use native.Mathlib.Omega.{arith}
 use native.Mathlib.Nat.{le-trans, le-refl}
 use mathlib.Core.Path.{_≡_, refl, sym, ap, _∙_}
 use mathlib.Core.Bool.{Bool, true, false}
-use mathlib.Core.List.{List, [], _∷_}
-use mathlib.Core.Logic.{_⊎_, inl, inr, ⊎-elim}
-use lib.ListN.{length, getD}
+use mathlib.Core.Logic.{_⊎_, inl, ⊎-elim}
+use lib.ListN.{getD}
 use borrow.Author.Tests.{leb-true, eq-eqb, ne-eqb, eqb-true, eqb-false, ltb-true, ltb-false}
-use Rattle.words.specs.Tests.{if_then_else_, _=?_, _<?_, _≤?_}
+use Rattle.words.specs.Tests.{if_then_else_, _=?_, _<?_}
 use Rattle.settings.specs.declared.Settings.{Settings}
-use Rattle.settings.specs.Settings.{P, O, rounding, refusalOf}
-use Rattle.settings.specs.Quorums.{survives, _∋_}
+use Rattle.settings.specs.Settings.{P, rounding, refusalOf}
 use Rattle.settings.proofs.Laws.{accepted, accepted-in-range}
 use Rattle.messages.specs.declared.Message.{Message}
-use Rattle.messages.specs.declared.Message.the-variants.{LeaseRequest, LeaseGrant, Check, CheckAck}
-use Rattle.messages.specs.Answers.{Spoken, refuses, sends, says}
+use Rattle.messages.specs.declared.Message.the-variants.{LeaseRequest, LeaseGrant}
+use Rattle.messages.specs.Answers.{sends, says}
 use Rattle.messages.specs.Outcomes.{Outcome, _leaving_}
 use Rattle.recorder.specs.declared.Recorder.{Recorder}
-use Rattle.recorder.specs.Recorder.{Event, stepOf, lastReading, oldest, granted, lacking, halted, standing, registered}
-use Rattle.recorder.specs.Recorder.Event.{tick, grant, drive}
+use Rattle.recorder.specs.Recorder.{Event, stepOf, lastReading, oldest, granted, halted, standing, registered}
+use Rattle.recorder.specs.Recorder.Event.{grant}
 use Rattle.recorder.proofs.Grants.{granted-at}
 use Rattle.recorder.proofs.Keeping.{Good, step-good}
-use Rattle.recorder.proofs.Steps.{Going, Quiet, Asking, leaves, IsOpen, sentAt, sent-young, oldest-after, closed-granted, sent-kept, sent-now, place-after, reading-after}
-use Rattle.recorder.proofs.Ways.{Passes, Ways, each-way}
+use Rattle.recorder.proofs.Steps.{Going, Quiet, Asking, leaves, IsOpen, sentAt, sent-young, oldest-after, closed-granted, sent-kept, sent-now, place-after}
+use Rattle.recorder.proofs.Ways.{each-way}
 use Rattle.rack.specs.Clocks.{Clocks}
-use Rattle.rack.specs.Runs.{State, Sent, Party, partyKey, posted, delivered, wasSent}
+use Rattle.rack.specs.Runs.{State, posted, delivered, wasSent}
 use Rattle.rack.specs.Runs.Event.{atRecorder}
 use Rattle.rack.specs.Runs.Party.{recorder, standby, observer}
 use Rattle.rack.proofs.Clocks.{Reads, lower}
-use Rattle.rack.proofs.History.{All, sent-has, posted-all}
+use Rattle.rack.proofs.History.{sent-has, posted-all}
 use Rattle.rack.proofs.Ghost.{By, Ghost, Extends, stays, Behind, EndedFact, ack-on, history-on, ended-on, doomed-on}
 use Rattle.rack.proofs.Steps.{no-message, no-refused-message}
 use Rattle.rack.proofs.Invariant.{RecorderPart, Marks, Inv, observer-on, standby-on, by-weaker}

@@ -1,44 +1,42 @@
 -- An event at the standby keeps the invariant, and when it is told dead the request that it names is doomed. Assumes nothing.
-use Prim.Native.Nat.{ℕ, zero, suc, _+_, _-_, _*_, _≤_, _<_}
+use Prim.Native.Nat.{ℕ, zero, suc, _+_, _-_, _≤_}
 use native.Mathlib.Omega.{arith}
 use native.Mathlib.Nat.{le-trans, le-refl}
 use mathlib.Core.Path.{_≡_, refl, sym, ap, _∙_}
 use mathlib.Core.Bool.{Bool, true, false}
-use mathlib.Core.List.{List, [], _∷_, map}
+use mathlib.Core.List.{List, [], _∷_}
 use mathlib.Core.Logic.{_⊎_, inl, inr, ⊎-elim}
-use lib.ListN.{length, getD, replicate, List·getD-map}
-use borrow.Author.Tests.{eqb-true, eqb-false}
+use lib.ListN.{getD, replicate, List·getD-map}
 use Rattle.words.specs.Tests.{if_then_else_, _=?_}
 use Rattle.words.specs.Lists.{some}
 use Rattle.words.specs.Said.{Said}
 use Rattle.words.proofs.Booleans.{not-both}
 use Rattle.settings.specs.declared.Settings.{Settings}
-use Rattle.settings.specs.Settings.{n, P, O, rounding, window, refusalOf}
+use Rattle.settings.specs.Settings.{n, O, rounding, window, refusalOf}
 use Rattle.settings.specs.Quorums.{closes, _∋_}
 use Rattle.settings.proofs.Laws.{accepted-in-range, window-law}
 use Rattle.messages.specs.declared.Status.{Status}
-use Rattle.messages.specs.declared.Status.the-variants.{Alive, Dead}
 use Rattle.messages.specs.declared.Message.{Message}
-use Rattle.messages.specs.declared.Message.the-variants.{LeaseRequest, LeaseGrant, Check, CheckAck}
+use Rattle.messages.specs.declared.Message.the-variants.{Check, CheckAck}
 use Rattle.messages.specs.Answers.{Spoken, sends, says, saysOf}
 use Rattle.messages.specs.Outcomes.{Outcome, _leaving_}
 use Rattle.standby.specs.declared.Place.{Place}
 use Rattle.standby.specs.declared.Standby.{Standby}
 use Rattle.standby.specs.Standby.{Event, stepWithin, closed, unused, noPlaces, keptMarks, keeping, afterKeeping, verdict, greatest, saysDead, lastReading}
-use Rattle.standby.specs.Standby.Event.{begin, ack, poll}
+use Rattle.standby.specs.Standby.Event.{ack}
 use Rattle.standby.specs.Claims.{Kept}
 use Rattle.standby.proofs.Forms.{form-is-kept}
 use Rattle.standby.proofs.Verdicts.{verdicts-hold}
 use Rattle.standby.proofs.Rounds.{dead-in-window}
 use Rattle.rack.specs.Clocks.{Clocks}
-use Rattle.rack.specs.Runs.{State, Sent, Party, partyKey, posted, delivered, wasSent}
+use Rattle.rack.specs.Runs.{State, partyKey, posted, delivered, wasSent}
 use Rattle.rack.specs.Runs.Event.{atStandby}
 use Rattle.rack.specs.Runs.Party.{recorder, standby, observer}
 use Rattle.rack.proofs.Clocks.{Reads, lower}
-use Rattle.rack.proofs.History.{All, sent-has, posted-all}
-use Rattle.rack.proofs.Ghost.{By, Ghost, Extends, stays, AckFact, Behind, Doomed, ack-on, history-on, doomed-on}
+use Rattle.rack.proofs.History.{sent-has, posted-all}
+use Rattle.rack.proofs.Ghost.{Ghost, Extends, stays, AckFact, Behind, Doomed, ack-on, history-on, doomed-on}
 use Rattle.rack.proofs.Steps.{StandbyStep, standby-step, no-message, no-refused-message}
-use Rattle.rack.proofs.Invariant.{Acked, StandbyPart, Marks, Inv, observer-on, standby-on, recorder-on}
+use Rattle.rack.proofs.Invariant.{Acked, StandbyPart, Marks, Inv, observer-on, recorder-on}
 
 -- the state after the standby's step
 abbrev pub afterStandby : State → (g : ℕ) → Outcome Standby → State

@@ -1,49 +1,43 @@
 -- Claim 2: a recorder that had registered and whose requests have run out is detected. Assumes nothing.
-use Prim.Native.Nat.{ℕ, zero, suc, _+_, _-_, _*_, _≤_, _<_}
+use Prim.Native.Nat.{ℕ, _+_, _-_, _*_, _≤_, _<_}
 use native.Mathlib.Omega.{arith}
-use native.Mathlib.Nat.{le-trans, le-refl}
+use native.Mathlib.Nat.{le-refl}
 use mathlib.Core.Path.{_≡_, refl, sym, ap, _∙_, subst}
-use mathlib.Core.Bool.{Bool, true, false, _&&_, _||_, not}
+use mathlib.Core.Bool.{Bool, true, false, _||_, not}
 use mathlib.Core.List.{List, [], _∷_, _++_, append-assoc}
 use mathlib.Core.Logic.{_⊎_, inl, inr, ⊎-elim}
-use lib.ListN.{length, getD, List·getD-map}
+use lib.ListN.{getD, List·getD-map}
 use borrow.Author.Tests.{leb-true, leb-false, eq-eqb}
-use Rattle.words.specs.Tests.{_=?_, _≤?_}
+use Rattle.words.specs.Tests.{_≤?_}
 use Rattle.words.specs.Lists.{every}
 use Rattle.words.specs.Said.{Said}
 use Rattle.words.specs.Said.Said.{refusal, gives}
-use Rattle.words.proofs.Booleans.{both-hold, not-both}
+use Rattle.words.proofs.Booleans.{both-hold}
 use Rattle.settings.specs.declared.Settings.{Settings}
 use Rattle.settings.specs.Settings.{O, rounding, window, refusalOf}
-use Rattle.settings.specs.Quorums.{closes, _∋_}
 use Rattle.settings.proofs.Laws.{accepted, accepted-in-range}
 use Rattle.settings.proofs.Quorums.{quorums-meet}
-use Rattle.messages.specs.declared.Status.{Status}
-use Rattle.messages.specs.declared.Status.the-variants.{Alive, Dead}
-use Rattle.messages.specs.declared.Message.{Message}
+use Rattle.messages.specs.declared.Status.the-variants.{Alive}
 use Rattle.messages.specs.declared.Message.the-variants.{LeaseRequest}
 use Rattle.messages.specs.Messages.{topReading}
-use Rattle.messages.specs.Answers.{Spoken, says, saysOf}
+use Rattle.messages.specs.Answers.{Spoken, saysOf}
 use Rattle.messages.specs.Answers.Spoken.{message, wordWith}
 use Rattle.recorder.specs.Recorder.{registered}
-use Rattle.observer.specs.Observer.{Event as ObserverEvent}
 use Rattle.observer.specs.Observer.Event.{request, cut, check}
 use Rattle.standby.specs.declared.Place.{Place}
 use Rattle.standby.specs.Standby.{keptMarks, keeping, verdict, greatest, unused, noPlaces}
-use Rattle.standby.specs.Standby.Event.{begin, ack, poll}
+use Rattle.standby.specs.Standby.Event.{begin, ack}
 use Rattle.standby.specs.Claims.{Kept}
 use Rattle.standby.proofs.Verdicts.{verdicts-hold}
 use Rattle.rack.specs.Clocks.{Clocks, reads}
 use Rattle.rack.specs.Runs.{ours, Event, time, Sent, Party, messageKey, sameNumbers, wasSent, posted, perform, onClock, delivered, stateAfter, answerTo, isRun}
 use Rattle.rack.specs.Runs.Event.{atRecorder, atObserver, atStandby, crash}
 use Rattle.rack.specs.Runs.Party.{recorder, standby, observer}
-use Rattle.rack.specs.Claims.{Ended, isRequest, sentBy, arrivesWithin, prompt, noBegin, RegisteredIn, Detects, DeadIsDetected}
+use Rattle.rack.specs.Claims.{Ended, isRequest, sentBy, arrivesWithin, prompt, noBegin, RegisteredIn, DeadIsDetected}
 use Rattle.rack.proofs.Clocks.{Reads, is-reading, lower}
 use Rattle.rack.proofs.History.{All, none, more, sent-has}
-use Rattle.rack.proofs.Ghost.{By, AckFact}
-use Rattle.rack.proofs.Steps.{Arrives}
-use Rattle.rack.proofs.Invariant.{Marks, Inv}
-use Rattle.rack.proofs.Along.{Adds, adds, Early, nothing, Holds, at-first, keeps, keeps-standby, has-registered, registers}
+use Rattle.rack.proofs.Invariant.{Marks}
+use Rattle.rack.proofs.Along.{Adds, adds, Early, nothing, Holds, at-first, keeps, keeps-standby, registers}
 use Rattle.rack.proofs.Rounds.{Closing, ended-by, begin-opens, same-round}
 
 -- ---- lists

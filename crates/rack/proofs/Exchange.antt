@@ -1,5 +1,5 @@
 -- Claim 3: a round whose query quorum's acks arrive within the timeliness bound ends by the last of them. Assumes nothing.
-use Prim.Native.Nat.{ℕ, zero, suc, _+_, _-_, _*_, _≤_, _<_}
+use Prim.Native.Nat.{ℕ, zero, suc, _+_, _-_, _≤_, _<_}
 use native.Mathlib.Omega.{arith}
 use native.Mathlib.Nat.{le-trans, le-refl, add-zero, zero-add, add-suc, suc-add}
 use mathlib.Core.Path.{_≡_, refl, sym, ap, _∙_, subst}
@@ -8,42 +8,41 @@ use mathlib.Core.List.{List, [], _∷_, _++_, map}
 use mathlib.Core.Logic.{_⊎_, inl, inr, ⊎-elim}
 use lib.ListN.{length, getD, List·getD-map}
 use lib.Seq.{getD-set-same}
-use borrow.Author.Tests.{leb-true, leb-false, le-ltb, lt-leb, le-leb, eqb-true, eqb-false, eq-eqb, ne-eqb, ltb-true, ltb-false}
+use borrow.Author.Tests.{leb-true, leb-false, le-ltb, lt-leb, eqb-true, eqb-false, eq-eqb, ne-eqb}
 use Rattle.words.specs.Tests.{if_then_else_, _=?_, _<?_, _≤?_}
 use Rattle.words.specs.Lists.{every, some}
-use Rattle.words.specs.Said.{Said, Refusal, first, _when_}
+use Rattle.words.specs.Said.{first, _when_}
 use Rattle.words.proofs.Booleans.{both-hold, not-both}
 use Rattle.settings.specs.declared.Settings.{Settings}
-use Rattle.settings.specs.Settings.{n, Δ, O, rounding, window, refusalOf, refusals}
+use Rattle.settings.specs.Settings.{n, Δ, window, refusalOf, refusals}
 use Rattle.settings.specs.Quorums.{closes, _∋_}
 use Rattle.settings.proofs.Laws.{accepted, accepted-in-range, window-law}
 use Rattle.settings.proofs.Quorums.{quorums-grow}
 use Rattle.messages.specs.declared.Status.{Status}
 use Rattle.messages.specs.declared.Message.the-variants.{CheckAck}
 use Rattle.messages.specs.Messages.{topReading, topCounter}
-use Rattle.messages.specs.Answers.{Spoken, says, saysOf}
+use Rattle.messages.specs.Answers.{says, saysOf}
 use Rattle.messages.specs.Outcomes.{Outcome, _leaving_, badReading}
 use Rattle.messages.proofs.Outcomes.{not-refused}
 use Rattle.standby.specs.declared.Place.{Place}
 use Rattle.standby.specs.declared.Standby.{Standby}
-use Rattle.standby.specs.Standby.{Event as StandbyEvent, stepWithin, ackWithin, ackRefusals, hasForm, isOpen, isLate, lastReading, closed, unused, noPlaces, keptMarks, keeping, afterKeeping, atReading, verdict, greatest, saysDead}
+use Rattle.standby.specs.Standby.{Event as StandbyEvent, stepWithin, ackWithin, ackRefusals, hasForm, isOpen, lastReading, closed, unused, noPlaces, keptMarks, keeping, afterKeeping, atReading, verdict, greatest, saysDead}
 use Rattle.standby.specs.Standby.Event.{begin, ack, poll}
 use Rattle.standby.specs.Claims.{Kept}
 use Rattle.standby.proofs.Forms.{form-says, form-is-kept}
 use Rattle.standby.proofs.Rounds.{kept-stays}
 use Rattle.rack.specs.Clocks.{Clocks, reads}
-use Rattle.rack.specs.Runs.{ours, Event, time, State, Party, wasSent, inTime, delivered, onClock, perform, stateAfter, answerTo, isRun}
+use Rattle.rack.specs.Runs.{ours, Event, time, inTime, delivered, onClock, perform, stateAfter, answerTo, isRun}
 use Rattle.rack.specs.Runs.Event.{atRecorder, atObserver, atStandby, crash}
 use Rattle.rack.specs.Runs.Party.{recorder, standby, observer}
-use Rattle.rack.specs.Claims.{Ended, isBegin, noBegin, ackFrom, sixteen, ackers, EndsInOneExchange, OneExchangeEnds}
+use Rattle.rack.specs.Claims.{Ended, isBegin, noBegin, ackFrom, sixteen, ackers, OneExchangeEnds}
 use Rattle.rack.proofs.Clocks.{Reads, is-reading, upper}
 use Rattle.rack.proofs.History.{sent-has}
-use Rattle.rack.proofs.Ghost.{AckFact, Behind}
+use Rattle.rack.proofs.Ghost.{Behind}
 use Rattle.rack.proofs.Steps.{StandbyStep, standby-step}
-use Rattle.rack.proofs.Invariant.{Marks, Inv}
 use Rattle.rack.proofs.Along.{nowOf, Adds, adds, nothing, Holds}
 use Rattle.rack.proofs.Safety.{from-start}
-use Rattle.rack.proofs.Rounds.{opened, reading-fine, begin-opens, passes-on}
+use Rattle.rack.proofs.Rounds.{reading-fine, begin-opens, passes-on}
 
 -- a verdict ends the round
 verdict-ends : (places : List Place) → Ended (verdict places)

@@ -4,10 +4,10 @@
 use Prim.Native.Nat.{ℕ, _+_, _≤_, _<_}
 use native.Mathlib.Omega.{arith}
 use native.Mathlib.Nat.{le-trans, le-refl}
-use mathlib.Core.Path.{_≡_, refl, sym, ap, _∙_}
+use mathlib.Core.Path.{_≡_, refl, _∙_}
 use mathlib.Core.Bool.{Bool, true}
 use mathlib.Core.List.{List, [], _∷_}
-use mathlib.Core.Logic.{_⊎_, inl, inr, ⊎-elim}
+use mathlib.Core.Logic.{_⊎_, inl, ⊎-elim}
 use Rattle.settings.specs.declared.Settings.{Settings}
 use Rattle.settings.specs.Settings.{n, P, O, rounding}
 use Rattle.settings.specs.Quorums.{survives, closes, _∋_}
@@ -16,8 +16,8 @@ use Rattle.messages.specs.declared.Status.the-variants.{Alive, Dead}
 use Rattle.messages.specs.declared.Message.{Message}
 use Rattle.messages.specs.declared.Message.the-variants.{LeaseRequest, LeaseGrant, Check, CheckAck}
 use Rattle.observer.specs.declared.Observer.{Observer}
-use Rattle.rack.specs.Clocks.{Clock, Clocks}
-use Rattle.rack.specs.Runs.{Party, Sent, partyKey}
+use Rattle.rack.specs.Clocks.{Clocks}
+use Rattle.rack.specs.Runs.{Party, Sent}
 use Rattle.rack.specs.Runs.Party.{recorder, standby, observer}
 use Rattle.rack.proofs.Clocks.{Reads}
 use Rattle.rack.proofs.History.{All, all-map}

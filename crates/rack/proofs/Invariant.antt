@@ -1,17 +1,15 @@
 -- The invariant of runs, in parts: recorder, observers, standby and history, each in the terms of proofs/Ghost.antt.
 -- Assumes nothing.
-use Prim.Native.Nat.{ℕ, zero, suc, _+_, _-_, _≤_, _<_}
-use native.Mathlib.Omega.{arith}
-use native.Mathlib.Nat.{le-trans, le-refl}
-use mathlib.Core.Path.{_≡_, refl, sym, ap, _∙_}
-use mathlib.Core.Bool.{Bool, true, false}
+use Prim.Native.Nat.{ℕ, _+_, _-_, _≤_, _<_}
+use native.Mathlib.Nat.{le-trans}
+use mathlib.Core.Path.{_≡_}
+use mathlib.Core.Bool.{Bool, true}
 use mathlib.Core.List.{List, [], _∷_}
 use mathlib.Core.Logic.{_⊎_, inl, inr, ⊎-elim}
 use lib.ListN.{length, getD}
 use Rattle.settings.specs.declared.Settings.{Settings}
 use Rattle.settings.specs.Settings.{O}
 use Rattle.settings.specs.Quorums.{survives, _∋_}
-use Rattle.messages.specs.declared.Status.{Status}
 use Rattle.recorder.specs.declared.Recorder.{Recorder}
 use Rattle.recorder.specs.Recorder.{lastReading as lastOfRecorder, oldest}
 use Rattle.recorder.proofs.Keeping.{Good}
@@ -23,11 +21,11 @@ use Rattle.standby.specs.declared.Standby.{Standby}
 use Rattle.standby.specs.Standby.{hasForm as standbyHasForm, lastReading as lastOfStandby, unused}
 use Rattle.standby.specs.Claims.{Kept}
 use Rattle.rack.specs.Clocks.{Clocks}
-use Rattle.rack.specs.Runs.{State, Sent, Party, partyKey}
+use Rattle.rack.specs.Runs.{State, Sent, partyKey}
 use Rattle.rack.specs.Runs.Party.{recorder, standby, observer}
 use Rattle.rack.proofs.Clocks.{Reads}
 use Rattle.rack.proofs.History.{All}
-use Rattle.rack.proofs.Ghost.{By, Ghost, Extends, AckFact, Behind, StoreFact, EndedFact, Doomed, ack-on, history-on, store-on, ended-on, doomed-on}
+use Rattle.rack.proofs.Ghost.{By, Ghost, Extends, AckFact, Behind, StoreFact, EndedFact, Doomed, ack-on, store-on}
 
 -- What the run has come to: the standby was told dead; the recorder had registered; and a round of this ts in which these
 -- places were kept, for a claim to come back to.

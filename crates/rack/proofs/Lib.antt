@@ -1,3 +1,5 @@
+-- Demand 3 over runs: clocks and history, the ghosts and the invariant, one module a party, then the three claims, the runs
+-- that meet their premises, and the shortcuts refuted.
 pub mod Clocks
 pub mod History
 pub mod Ghost

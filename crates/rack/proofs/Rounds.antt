@@ -1,13 +1,13 @@
 -- How a round goes along a run: what ends it, and what its begin leaves. Assumes nothing.
-use Prim.Native.Nat.{ℕ, zero, suc, _+_, _-_, _*_, _≤_, _<_}
+use Prim.Native.Nat.{ℕ, _+_, _-_, _*_, _≤_, _<_}
 use native.Mathlib.Omega.{arith}
-use native.Mathlib.Nat.{le-trans, le-refl}
-use mathlib.Core.Path.{_≡_, refl, sym, ap, _∙_}
-use mathlib.Core.Bool.{Bool, true, false, _&&_, _||_, not}
+use native.Mathlib.Nat.{le-trans}
+use mathlib.Core.Path.{_≡_, refl, ap, _∙_}
+use mathlib.Core.Bool.{Bool, true, false, _||_, not}
 use mathlib.Core.List.{List, [], _∷_, _++_}
 use mathlib.Core.Logic.{_⊎_, inl, inr, ⊎-elim}
-use lib.ListN.{length, getD}
-use borrow.Author.Tests.{leb-true, le-ltb, ltb-true, eqb-true, eqb-false}
+use lib.ListN.{getD}
+use borrow.Author.Tests.{leb-true, le-ltb, ltb-true}
 use Rattle.words.specs.Tests.{if_then_else_, _=?_, _<?_, _≤?_}
 use Rattle.words.specs.Lists.{every}
 use Rattle.words.specs.Said.{Said, Refusal, first, _when_}
@@ -17,32 +17,30 @@ use Rattle.settings.specs.declared.Settings.{Settings}
 use Rattle.settings.specs.Settings.{window, refusalOf, refusals}
 use Rattle.settings.specs.Quorums.{closes}
 use Rattle.messages.specs.declared.Status.{Status}
-use Rattle.messages.specs.declared.Message.{Message}
-use Rattle.messages.specs.declared.Message.the-variants.{LeaseRequest, LeaseGrant, Check, CheckAck}
+use Rattle.messages.specs.declared.Message.the-variants.{LeaseRequest, LeaseGrant, Check}
 use Rattle.messages.specs.Messages.{topReading}
-use Rattle.messages.specs.Answers.{Spoken, refuses, sends, says, saysOf}
+use Rattle.messages.specs.Answers.{Spoken, refuses, sends, says}
 use Rattle.messages.specs.Answers.Spoken.{message, wordWith}
 use Rattle.messages.specs.Outcomes.{Outcome, _leaving_, badReading}
 use Rattle.messages.proofs.Outcomes.{either-way, not-refused}
 use Rattle.recorder.specs.declared.Recorder.{Recorder}
 use Rattle.recorder.specs.Recorder.{Event as RecorderEvent, stepOf as recorderStep, advanced, due, requesting, granting, registered, standing, tickEvent, grantEvent, driveEvent}
 use Rattle.recorder.specs.Recorder.Event.{tick, grant, drive}
-use Rattle.recorder.proofs.Ways.{eventOf, Ways, each-way}
+use Rattle.recorder.proofs.Ways.{eventOf, each-way}
 use Rattle.observer.specs.declared.Observer.{Observer}
 use Rattle.observer.specs.Observer.{Event as ObserverEvent, stepOf as observerStep, requestRefusals, cutRefusals, checkRefusals, requestOf, cutOf, checkOf}
 use Rattle.observer.specs.Observer.Event.{request, cut, check}
-use Rattle.standby.specs.declared.Place.{Place}
 use Rattle.standby.specs.declared.Standby.{Standby}
 use Rattle.standby.specs.Standby.{Event as StandbyEvent, stepWithin, beginOf, beginRefusals, hasForm, isOpen, lastReading, noPlaces, closed, keptMarks, keeping, afterKeeping, verdict}
 use Rattle.standby.specs.Standby.Event.{begin, ack, poll}
 use Rattle.rack.specs.Clocks.{Clocks, reads}
-use Rattle.rack.specs.Runs.{Rules, oursWithin, Event, time, State, Party, partyKey, Reading, readingsAt, perform, onClock, stateAfter, answerTo, isRun}
+use Rattle.rack.specs.Runs.{Rules, oursWithin, Event, partyKey, readingsAt, perform, onClock, stateAfter, answerTo}
 use Rattle.rack.specs.Runs.Event.{atRecorder, atObserver, atStandby, crash}
-use Rattle.rack.specs.Runs.Party.{recorder, standby, observer}
+use Rattle.rack.specs.Runs.Party.{recorder, standby}
 use Rattle.rack.specs.Claims.{Ended, isBegin}
 use Rattle.rack.proofs.Steps.{StandbyStep, standby-step}
-use Rattle.rack.proofs.Invariant.{StandbyPart, Marks, Inv}
-use Rattle.rack.proofs.Along.{nowOf, topOf, Adds, adds, Holds, reading-of}
+use Rattle.rack.proofs.Invariant.{Marks}
+use Rattle.rack.proofs.Along.{Adds, Holds, reading-of}
 
 -- ---- which answers end a round
 

@@ -3,26 +3,24 @@
 use Prim.Native.Nat.{ℕ, _+_, _-_, _≤_, _<_}
 use native.Mathlib.Omega.{arith}
 use native.Mathlib.Nat.{le-trans, le-refl}
-use mathlib.Core.Path.{_≡_, refl, sym, ap, _∙_}
+use mathlib.Core.Path.{_≡_, refl}
 use mathlib.Core.Bool.{Bool, true, false}
 use mathlib.Core.List.{List, [], _∷_, _++_}
-use mathlib.Core.Logic.{_⊎_, inl, inr, ⊎-elim}
+use mathlib.Core.Logic.{inl, inr}
 use borrow.Author.Tests.{ltb-true, ltb-false}
 use Rattle.words.specs.Tests.{_<?_, _≤?_}
 use Rattle.words.proofs.Booleans.{both-hold, not-both}
 use Rattle.settings.specs.declared.Settings.{Settings}
-use Rattle.settings.specs.Settings.{P, O, rounding, window, refusalOf}
-use Rattle.settings.proofs.Laws.{accepted, accepted-in-range}
+use Rattle.settings.specs.Settings.{P, window, refusalOf}
+use Rattle.settings.proofs.Laws.{accepted}
 use Rattle.settings.proofs.Quorums.{quorums-meet}
 use Rattle.messages.specs.Messages.{topReading}
-use Rattle.messages.specs.Answers.{refuses, says, saysOf}
-use Rattle.messages.specs.Outcomes.{Outcome}
-use Rattle.recorder.specs.declared.Recorder.{Recorder}
+use Rattle.messages.specs.Answers.{says, saysOf}
 use Rattle.recorder.specs.Recorder.{Event as RecorderEvent, stepOf as recorderStep, lastReading, oldest}
-use Rattle.recorder.specs.Recorder.Event.{tick, grant, drive}
+use Rattle.recorder.specs.Recorder.Event.{drive}
 use Rattle.recorder.specs.Claims.{Sized}
 use Rattle.recorder.proofs.Steps.{Going, IsOpen, running-after, reading-after, sent-young}
-use Rattle.recorder.proofs.Ways.{Ways, each-way}
+use Rattle.recorder.proofs.Ways.{each-way}
 use Rattle.standby.specs.Standby.{noPlaces}
 use Rattle.standby.proofs.Verdicts.{says-other}
 use Rattle.rack.specs.Clocks.{Clocks, reads}
@@ -30,9 +28,8 @@ use Rattle.rack.specs.Runs.{oursWithin, Event, State, time, onClock, per
 use Rattle.rack.specs.Runs.Event.{atRecorder}
 use Rattle.rack.specs.Claims.{StoppedOrRefused, Safe, DeadMeansDead}
 use Rattle.rack.proofs.Clocks.{Reads, is-reading, lower}
-use Rattle.rack.proofs.Ghost.{By, Doomed}
-use Rattle.rack.proofs.Invariant.{RecorderPart, Marks, Inv}
-use Rattle.rack.proofs.Along.{nowOf, topOf, Adds, adds, Early, nothing, Holds, at-first, keeps, tells}
+use Rattle.rack.proofs.Invariant.{Marks, Inv}
+use Rattle.rack.proofs.Along.{nowOf, topOf, adds, Early, nothing, Holds, at-first, keeps, tells}
 
 -- A recorder whose request is doomed has stopped by the time it makes a step: had it gone on, the lease of that request would
 -- have ended with grants of a survival quorum, stored before the lease was long over; but a query quorum had stored nothing

@@ -1,7 +1,7 @@
 -- The rules of specs/Shortcuts.antt are not safe: their runs compute, and in each a drive after dead is answered running.
 -- Assumes nothing.
 use mathlib.Core.List.{[], _∷_}
-use mathlib.Core.Path.{_≡_, refl}
+use mathlib.Core.Path.{refl}
 use lib.ListN.{drop}
 use Rattle.words.specs.Lists.{every, some, countWhere}
 use Rattle.words.specs.Said.{first}

@@ -11,7 +11,7 @@ use Rattle.words.proofs.Booleans.{both-hold, not-both}
 use Rattle.settings.specs.Settings.{ranges, eachIn, inRange, refusalOf, window}
 use Rattle.settings.specs.Quorums.{members, survives, closes}
 use Rattle.messages.specs.declared.Status.the-variants.{Alive, Dead}
-use Rattle.messages.specs.Answers.{says, saysOf}
+use Rattle.messages.specs.Answers.{saysOf}
 use Rattle.messages.specs.Outcomes.{unlessRefused}
 use Rattle.recorder.specs.Recorder as recorder
 use Rattle.observer.specs.Observer as observer

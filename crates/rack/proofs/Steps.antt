@@ -2,23 +2,22 @@
 use Prim.Native.Nat.{ℕ, zero, suc, _+_, _-_, _≤_, _<_}
 use native.Mathlib.Omega.{arith}
 use mathlib.Core.Path.{_≡_, refl, sym, ap, _∙_}
-use mathlib.Core.Bool.{Bool, true, false, _&&_, _||_, not}
-use mathlib.Core.List.{List, [], _∷_, _++_}
-use mathlib.Core.Logic.{_⊎_, inl, inr, ⊎-elim}
+use mathlib.Core.Bool.{Bool, true, false}
+use mathlib.Core.List.{List, [], _∷_}
+use mathlib.Core.Logic.{_⊎_, inl, inr}
 use lib.ListN.{take, getD}
-use borrow.Author.Tests.{ltb-true, ltb-false, leb-true, leb-false, eqb-true, eqb-false, not-true, not-false}
-use Rattle.words.specs.Tests.{if_then_else_, _<?_, _≤?_, _=?_}
+use borrow.Author.Tests.{ltb-true, ltb-false, leb-false, eqb-true, not-false}
+use Rattle.words.specs.Tests.{if_then_else_, _<?_}
 use Rattle.words.specs.Lists.{every}
-use Rattle.words.specs.Said.{Said, Refusal, first, _when_}
+use Rattle.words.specs.Said.{Said}
 use Rattle.words.specs.Said.Said.{refusal, gives}
 use Rattle.words.proofs.Said.{none-applies}
 use Rattle.settings.specs.declared.Settings.{Settings}
-use Rattle.settings.specs.Settings.{n, O, refusals}
-use Rattle.settings.specs.Quorums.{closes}
+use Rattle.settings.specs.Settings.{n, O}
 use Rattle.messages.specs.declared.Status.{Status}
 use Rattle.messages.specs.declared.Message.{Message}
-use Rattle.messages.specs.declared.Message.the-variants.{LeaseRequest, LeaseGrant, Check, CheckAck}
-use Rattle.messages.specs.Answers.{Spoken, refuses, sends, says, saysOf}
+use Rattle.messages.specs.declared.Message.the-variants.{LeaseGrant, Check, CheckAck}
+use Rattle.messages.specs.Answers.{Spoken, refuses, sends, says}
 use Rattle.messages.specs.Answers.Spoken.{message, wordWith}
 use Rattle.messages.specs.Outcomes.{Outcome, _leaving_}
 use Rattle.messages.proofs.Outcomes.{either-way}
@@ -26,7 +25,6 @@ use Rattle.observer.specs.declared.Observer.{Observer}
 use Rattle.observer.specs.Observer as observer
 use Rattle.observer.specs.Observer.{Event as ObserverEvent}
 use Rattle.observer.specs.Observer.Event.{request, cut, check}
-use Rattle.standby.specs.declared.Place.{Place}
 use Rattle.standby.specs.declared.Standby.{Standby}
 use Rattle.standby.specs.Standby as standby
 use Rattle.standby.specs.Standby.{Event as StandbyEvent}

@@ -15,10 +15,8 @@ use Rattle.messages.specs.declared.Message.{Message}
 use Rattle.messages.specs.declared.Message.the-variants.{LeaseRequest, LeaseGrant, Check, CheckAck}
 use Rattle.messages.specs.Answers.{Spoken, refuses, says, saysOf}
 use Rattle.recorder.specs.Recorder.{Event as RecorderEvent, registered}
-use Rattle.recorder.specs.Recorder.Event.{tick, grant, drive}
-use Rattle.observer.specs.Observer.{Event as ObserverEvent}
+use Rattle.recorder.specs.Recorder.Event.{drive}
 use Rattle.observer.specs.Observer.Event.{request, cut, check}
-use Rattle.standby.specs.Standby.{Event as StandbyEvent}
 use Rattle.standby.specs.Standby.Event.{begin, ack, poll}
 use Rattle.rack.specs.Clocks.{Clocks}
 use Rattle.rack.specs.Runs.{Rules, oursWithin, ours, Event, time, Sent, messageKey, sameNumbers, stateAfter, answerTo, isRun}

@@ -27,7 +27,7 @@ use Rattle.observer.specs.Observer.Event.{request, cut, check}
 use Rattle.standby.specs.declared.Standby.{Standby}
 use Rattle.standby.specs.Standby.{Event as StandbyEvent, stepWithin, fresh as freshStandby}
 use Rattle.standby.specs.Standby.Event.{begin, ack, poll}
-use Rattle.rack.specs.Clocks.{Clock, Clocks, reads}
+use Rattle.rack.specs.Clocks.{Clocks, reads}
 
 -- ---- Rules: what each party does at a step
 

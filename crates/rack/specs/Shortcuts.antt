@@ -9,7 +9,7 @@ use Rattle.words.specs.Tests.{if_then_else_, _<?_, _=?_}
 use Rattle.words.specs.Lists.{countWhere}
 use Rattle.words.specs.Said.{Said}
 use Rattle.settings.specs.declared.Settings.{Settings}
-use Rattle.settings.specs.Settings.{P, O, rounding, window}
+use Rattle.settings.specs.Settings.{settings, usual, P, O, rounding, window}
 use Rattle.settings.specs.Quorums.{closes}
 use Rattle.messages.specs.declared.Status.{Status}
 use Rattle.messages.specs.declared.Status.the-variants.{Alive, Dead}
@@ -33,7 +33,7 @@ use Rattle.rack.specs.Clocks.{Clocks}
 use Rattle.rack.specs.Runs.{Rules, oursWithin, ours}
 use Rattle.rack.specs.Runs.Event.{atRecorder, atObserver, atStandby}
 use Rattle.rack.specs.Claims.{Safe}
-use Rattle.rack.specs.Tables.{settings, usual, narrow, clocksAhead, together, Line, _gets_, AsWritten}
+use Rattle.rack.specs.Tables.{narrow, clocksAhead, together, Line, _gets_, AsWritten}
 
 -- Rules refuted by a run under accepted settings: the run as the rules have it, that they are not safe, and what our rules say
 -- at the same events.

@@ -8,7 +8,7 @@ use lib.IntN.{pos}
 use Rattle.words.specs.Lists.{every}
 use Rattle.words.specs.Said.{Said}
 use Rattle.settings.specs.declared.Settings.{Settings}
-use Rattle.settings.specs.Settings.{Δ, O, rounding, window, slackB}
+use Rattle.settings.specs.Settings.{usual, Δ, O, rounding, window, slackB}
 use Rattle.settings.specs.Quorums.{closes}
 use Rattle.messages.specs.declared.Status.{Status}
 use Rattle.messages.specs.declared.Status.the-variants.{Alive, Dead}
@@ -21,7 +21,7 @@ use Rattle.rack.specs.Clocks.{Clocks}
 use Rattle.rack.specs.Runs.{Rules, ours, Event, stateAfter, answerTo, isRun}
 use Rattle.rack.specs.Runs.Event.{atRecorder, atObserver, atStandby}
 use Rattle.rack.specs.Claims.{Detects, Ended, RegisteredIn, sentBy, prompt, noBegin, ackers}
-use Rattle.rack.specs.Tables.{usual, narrow, clocksAhead, together, Line, _gets_, runOf, AsWritten}
+use Rattle.rack.specs.Tables.{narrow, clocksAhead, together, Line, _gets_, runOf, AsWritten}
 
 -- ---- 1. Safety
 

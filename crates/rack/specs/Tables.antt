@@ -8,29 +8,12 @@ use mathlib.Core.Path.{_≡_}
 use lib.ListN.{getD}
 use Rattle.words.specs.Said.{Said}
 use Rattle.settings.specs.declared.Settings.{Settings}
-use Rattle.settings.specs.Settings.{refusalOf}
+use Rattle.settings.specs.Settings.{settings, refusalOf}
 use Rattle.messages.specs.Answers.{Spoken}
 use Rattle.rack.specs.Clocks.{Clock, Clocks}
 use Rattle.rack.specs.Runs.{Rules, Event, answerTo, isRun}
 
 -- ---- Settings and clocks
-
--- the seven numbers in 01's order
-abbrev pub settings : (n t η Δ P O G : ℕ) → Settings
-settings n t η Δ P O G =
-    record {
-      observers = n;
-      survival = t;
-      interval = η;
-      timeliness = Δ;
-      «recorder_lease» = P;
-      «observer_lease» = O;
-      grain = G;
-    }
-
--- the settings of 01's whole case: W = 49, slacks 0, 0, 6241
-abbrev pub usual : Settings
-usual = settings 3 2 100 40 159 235 10
 
 -- small numbers, for runs at the margin: W = 2, slacks 0, 0, 122
 abbrev pub narrow : Settings

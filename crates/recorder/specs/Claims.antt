@@ -1,17 +1,15 @@
 -- What every step of the recorder keeps, whatever its event. A refused step hands the record back, so each claim covers it too.
 use Prim.Native.Nat.{ℕ, _≤_}
-use mathlib.Core.Bool.{Bool, true, false}
-use mathlib.Core.List.{List}
+use mathlib.Core.Bool.{true}
 use mathlib.Core.Logic.{_⊎_}
 use mathlib.Core.Path.{_≡_}
 use lib.ListN.{length, drop, getD}
-use Rattle.words.specs.Said.Said.{refusal}
 use Rattle.settings.specs.declared.Settings.{Settings}
 use Rattle.settings.specs.Settings.{refusalOf}
 use Rattle.messages.specs.Messages.{topCounter}
 use Rattle.messages.specs.Answers.{refuses, says}
 use Rattle.recorder.specs.declared.Recorder.{Recorder}
-use Rattle.recorder.specs.Recorder.{hasForm, leases, openLeases, lastReading, kept, Event, stepOf, fresh}
+use Rattle.recorder.specs.Recorder.{hasForm, leases, openLeases, kept, Event, stepOf, fresh}
 
 -- 64 places of leases and 16 of grants, as the struct has them
 pub record Sized (rec : Recorder) : Type 0 where

@@ -1,7 +1,5 @@
 -- What the settings' answers say: 01's number, and the values W, a, b, c.
 use Prim.Native.Nat.{ℕ}
-use mathlib.Core.Bool.{Bool}
-use mathlib.Core.Path.{_≡_}
 use lib.IntN.{ℤ}
 use Rattle.words.specs.Tests.{if_then_else_, _=?_}
 use Rattle.words.specs.Said.{Said}

@@ -1,6 +1,6 @@
 -- The seven numbers, their ranges, the three slacks, the round window, and the refusals 1 and 2.
-use Prim.Native.Nat.{ℕ, _+_, _*_, _-_, _≤_}
-use mathlib.Core.Bool.{Bool, true, false, _&&_, _||_, not}
+use Prim.Native.Nat.{ℕ, _*_, _-_, _≤_}
+use mathlib.Core.Bool.{Bool, true, _&&_, _||_, not}
 use mathlib.Core.List.{List, [], _∷_}
 use lib.IntN.{ℤ, pos, _-ℤ_}
 use lib.Signed.{ltZ}
@@ -30,6 +30,23 @@ O s = s .«observer_lease»
 
 abbrev pub G : Settings → ℕ
 G s = s .grain
+
+-- settings from the seven numbers, in 01's order
+abbrev pub settings : (n t η Δ P O G : ℕ) → Settings
+settings n t η Δ P O G =
+    record {
+      observers = n;
+      survival = t;
+      interval = η;
+      timeliness = Δ;
+      «recorder_lease» = P;
+      «observer_lease» = O;
+      grain = G;
+    }
+
+-- the settings of 01's whole case: W = 49, slacks 0, 0, 6241
+abbrev pub usual : Settings
+usual = settings 3 2 100 40 159 235 10
 
 -- G - 1: by how much a reading can lie below its clock
 abbrev pub rounding : Settings → ℕ

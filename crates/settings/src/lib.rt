@@ -1,9 +1,8 @@
 // The seven settings of document 01: their ranges, the three slacks, the round window W, the refusals 1 and 2,
 // and the two quorum tests. Serves the section "Settings".
 ghost use mathlib.Core.Path.{_≡_};
-ghost use mathlib.Core.Bool.{Bool};
 ghost use Prim.Native.Nat.{_<_, _^_, _-_};
-ghost use lib.IntN.{ℤ, pos, _-ℤ_};
+ghost use lib.IntN.{pos, _-ℤ_};
 ghost use Rattle.settings.specs.Settings.{inRange, InRange, slackA, slackB, slackC, window, refusalOf, negative};
 ghost use Rattle.settings.specs.Answers.{saidOf, judged, saidOfSlacks, slacksOf};
 ghost use Rattle.settings.specs.Quorums.{members, survives, closes, QuorumsMeet, QuorumsGrow};

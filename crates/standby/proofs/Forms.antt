@@ -210,7 +210,7 @@ no-three w s q r poll formed =
 pub form-is-kept : FormIsKept
 unfolding hasForm
 form-is-kept = record {
-  at-first = λ s accepted. (closed-formed s 0 (omega arith), refl);
+  at-first = λ s. (closed-formed s 0 (omega arith), refl);
   by-steps = by-steps;
   no-three = no-three;
 }

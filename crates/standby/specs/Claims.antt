@@ -5,7 +5,6 @@ use mathlib.Core.List.{List}
 use mathlib.Core.Path.{_≡_}
 use lib.ListN.{length, getD}
 use Rattle.settings.specs.declared.Settings.{Settings}
-use Rattle.settings.specs.Settings.{refusalOf}
 use Rattle.settings.specs.Quorums.{closes}
 use Rattle.messages.specs.declared.Status.the-variants.{Alive, Dead}
 use Rattle.messages.specs.Answers.{refuses, saysOf, says}
@@ -17,9 +16,9 @@ use Rattle.standby.specs.Standby.{hasForm, isOpen, lastReading, closed, 
 abbrev pub Sized : Standby → Type 0
 Sized q = length (q .places) ≡ 16
 
--- A fresh record has the form, and under accepted settings every step leaves a record of the form.
+-- A fresh record has the form, and every step leaves a record of the form; so a host that starts fresh never meets refusal 3.
 pub record FormIsKept : Type 0 where
-  pub at-first : (s : Settings) → refusalOf s ≡ 0 → (hasForm s fresh ≡ true) × Sized fresh
+  pub at-first : (s : Settings) → (hasForm s fresh ≡ true) × Sized fresh
   pub by-steps : (w : ℕ) (s : Settings) (q : Standby) (r : ℕ) (event : Event) → Sized q → hasForm s q ≡ true
       → (hasForm s (stepWithin w s q r event .rec) ≡ true) × Sized (stepWithin w s q r event .rec)
   pub no-three : (w : ℕ) (s : Settings) (q : Standby) (r : ℕ) (event : Event) → hasForm s q ≡ true → stepWithin w s q r event .answer ≡ refuses 3 → ⊥
@@ -47,7 +46,8 @@ pub record VerdictsHold : Type 0 where
       → (0 < m) × (m ≡ greatest places) × ((x : ℕ) → Kept places x → getD places x unused .counter ≡ m → getD places x unused .status ≡ Alive)
   pub unknown : (places : List Place) → verdict places ≡ says "unknown" → greatest places ≡ 0
 
--- Dead is said only of a query quorum of acks, kept within the window, the last of which came in this very step.
+-- Dead is said only on an ack of the open round, within the window, that makes a query quorum with those kept before; the
+-- word is that quorum's verdict.
 abbrev pub DeadInWindow : Type 0
 DeadInWindow =
     (w : ℕ) (s : Settings) (q : Standby) (r : ℕ) (event : Event) (m : ℕ) → stepWithin w s q r event .answer ≡ saysOf "dead" m

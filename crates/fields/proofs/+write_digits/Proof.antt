@@ -2,8 +2,8 @@
 use native.Mathlib.Omega.{arith}
 use Prim.Native.Nat.{_+_, _/_, _%_}
 use denote.Ref.{now}
-use mathlib.Core.Path.{_≡_, refl, sym, _∙_, ap}
-use lib.ListN.{length, length-append, length-set}
+use mathlib.Core.Path.{_≡_, refl, ap}
+use lib.ListN.{length, length-set}
 use Rattle.fields.specs.Decimals.{digits}
 use Rattle.fields.proofs.Digits.{digits-one, digits-more, count-more}
 use Rattle.fields.proofs.Rooms.{put-first, put-next}

@@ -1,7 +1,6 @@
 -- The part from a place on is what `drop` leaves; past the end that is nothing. Assumes nothing.
-use Prim.Native.Nat.{ℕ, _≤_}
 use native.Mathlib.Nat.{le-refl, le-of-lt}
-use mathlib.Core.Path.{_≡_, sym, _∙_}
+use mathlib.Core.Path.{sym, _∙_}
 use denote.Ref.{now}
 use lib.ListN.{length, drop-of-length-le}
 use Rattle.fields.proofs.Rooms.{part-from}

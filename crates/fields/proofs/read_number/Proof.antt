@@ -1,8 +1,7 @@
 -- The first byte decides; what follows is read on. Assumes nothing.
-use Prim.Native.Nat.{ℕ}
 use native.Mathlib.Omega.{arith}
-use mathlib.Core.Path.{_≡_, refl, sym, _∙_}
-use mathlib.Core.Bool.{true, false}
+use mathlib.Core.Path.{_≡_, sym, _∙_}
+use mathlib.Core.Bool.{true}
 use denote.Ref.{now}
 use lib.ListN.{getD}
 use borrow.Author.Tests.{not-true, not-false}

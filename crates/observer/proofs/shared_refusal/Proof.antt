@@ -9,8 +9,7 @@ use Rattle.words.specs.Lists.{every}
 use Rattle.words.specs.Tests.{_≤?_}
 use Rattle.settings.specs.Settings.{n, refusals, refusalOf}
 use Rattle.settings.proofs.Laws.{accepted-in-range}
-use Rattle.observer.specs.Observer.{hasForm}
-use Rattle.observer.specs.Outcome.{sharedRefusals}
+use Rattle.observer.specs.Observer.{hasForm, sharedRefusals}
 use Rattle.observer.proofs.Refusals.{still-refused, passed-on}
 use Rattle.observer.proofs.shared_refusal.Statement.{statement}
 use Rattle.observer.proofs.shared_refusal.Tie as tie
