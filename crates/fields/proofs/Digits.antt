@@ -7,8 +7,10 @@ use mathlib.Core.Bool.{Bool, true, false}
 use mathlib.Core.List.{List, [], _∷_, _++_}
 use lib.Dec.{ltb}
 use lib.ListN.{length, length-append}
-use borrow.Author.Tests.{lt-ltb, le-ltb, ltb-true, ltb-false}
-use Rattle.fields.specs.Decimals.{digitsIn, digits}
+use borrow.Author.Tests.{le-leb, lt-ltb, le-ltb, ltb-true, ltb-false}
+use Rattle.words.specs.Lists.{every}
+use Rattle.words.proofs.Walks.{every-append}
+use Rattle.fields.specs.Decimals.{isDigit, digitsIn, digits}
 
 -- one digit is left, or more
 pub by-size {ℓ} : {A : Type ℓ} (n : ℕ) → (n < 10 → A) → (10 ≤ n → A) → A
@@ -66,6 +68,29 @@ count-in (suc places) (suc k) n h = by (ltb n 10) (count-in places k (n / 10) (t
 pub digits-most : (k n : ℕ) → n < 10 ^ suc k → length (digits n) ≤ suc k
 unfolding digits
 digits-most k n h = count-in 20 k n h
+
+one-is-digit : (d : ℕ) → d < 10 → every isDigit ((48 + d) ∷ []) ≡ true
+unfolding every
+one-is-digit d h = rw (le-leb 48 (48 + d) (omega arith), le-leb (48 + d) 57 (omega arith))
+
+-- never more than 20, and every one of them is a digit
+all-digits : (places n : ℕ) → (length (digitsIn places n) ≤ places) × (every isDigit (digitsIn places n) ≡ true)
+unfolding digitsIn every
+all-digits zero n = (omega arith, refl)
+all-digits (suc places) n =
+    let before = all-digits places (n / 10) in
+    by-size n (λ h. rw (one-digit places n h) (omega arith, one-is-digit n h))
+    (λ h.
+    rw (last-digit places n h)
+    (rw (length-append (digitsIn places (n / 10)) ((48 + n % 10) ∷ [])) (omega arith), every-append isDigit (digitsIn places (n / 10)) _ (before .1) (one-is-digit (n % 10) (omega arith))))
+
+pub digits-twenty : (n : ℕ) → length (digits n) ≤ 20
+unfolding digits
+digits-twenty n = all-digits 20 n .0
+
+pub digits-all : (n : ℕ) → every isDigit (digits n) ≡ true
+unfolding digits
+digits-all n = all-digits 20 n .1
 
 -- at least one digit
 pub digits-some : (n : ℕ) → n < 2 ^ 64 → 1 ≤ length (digits n)

@@ -3,15 +3,15 @@ use Prim.Native.Nat.{ℕ, zero, suc, _+_, _-_, _≤_, _<_}
 use native.Mathlib.Nat.{not-suc-le-zero, le-of-suc-le-suc}
 use native.Mathlib.Numerals.{add-one}
 use native.Mathlib.Omega.{arith}
-use mathlib.Core.Path.{_≡_, refl, sym, ap₂, _∙_}
+use mathlib.Core.Path.{_≡_, refl, sym, ap, ap₂, _∙_}
 use mathlib.Core.Bool.{Bool, true, false}
 use mathlib.Core.List.{List, [], _∷_, _++_, append-assoc, append-nil}
 use lib.ListN.{length, take, drop, getD, set, length-append, length-take, length-drop, drop-of-length-le}
 use borrow.Rule.Slice.PartMut.{putMid}
-use lib.Seq.{drop-cons, set-append-seam, take-all, take-append-seam, drop-append-add, drop-drop}
+use lib.Seq.{drop-cons, set-append-seam, length-take-le, paste-zero, take-all, take-append-seam, drop-append-add, drop-drop}
 use borrow.Author.Tests.{le-leb, lt-leb, leb-true, eqb-true}
 use Rattle.words.specs.Tests.{if_then_else_, _≤?_, _=?_}
-use Rattle.fields.specs.Places.{putAt, nextPlace, agree}
+use Rattle.fields.specs.Places.{putAt, nextPlace, agree, begins}
 
 -- the part of a slice from n on, as code makes it
 pub part-from {ℓ} : {A : Type ℓ} (n : ℕ) (xs : List A) → take (length xs - n) (drop n xs) ≡ drop n xs
@@ -62,6 +62,24 @@ put-behind done room bytes h =
     put-fits (done ++ drop (length done) room) (length done) bytes (simp (length-append, length-drop) (omega arith))
     ∙ rw (take-append-seam done (drop (length done) room), drop-append-add done (drop (length done) room) (length bytes), drop-drop (length bytes) (length done) room)
 
+-- nothing put changes nothing, and bytes behind bytes are bytes put at once
+pub put-nothing : (room : List ℕ) (at : ℕ) → at ≤ length room → room ≡ putAt room at []
+put-nothing room at h = paste-zero room at [] ∙ sym (put-fits room at [] (omega arith))
+
+pub put-more : (room : List ℕ) (at : ℕ) (done bytes : List ℕ) → at + length done + length bytes ≤ length room
+    → putAt (putAt room at done) (at + length done) bytes ≡ putAt room at (done ++ bytes)
+put-more room at done bytes h =
+    let front = take at room ++ done in
+    let size : length front ≡ at + length done = length-append (take at room) done ∙ ap (λ (k : ℕ). k + length done) (length-take-le at room (omega arith)) in
+    let both : length front + length bytes ≡ at + length (done ++ bytes) = rw (length-append done bytes) (omega (arith, size)) in
+    let held : putAt room at done ≡ front ++ drop (length front) room = put-fits room at done (omega arith) ∙ ap (λ (k : ℕ). front ++ drop k room) (sym size) in
+    let last : putAt room at (done ++ bytes) ≡ take at room ++ (done ++ bytes) ++ drop (at + length (done ++ bytes)) room
+    = put-fits room at (done ++ bytes) (omega (arith, both, size)) in
+    ap₂ (λ (l : List ℕ) (k : ℕ). putAt l k bytes) held (sym size)
+    ∙ put-behind front room bytes (omega (arith, size))
+    ∙ ap₂ (λ (l : List ℕ) (k : ℕ). l ++ drop k room) (append-assoc (take at room) done bytes) both
+    ∙ sym last
+
 -- ---- words at the front
 
 -- one byte of agreement
@@ -96,6 +114,10 @@ agree-front (byte ∷ bytes) (letter ∷ letters) e = by (byte =? letter) refl e
         → byte ∷ bytes ≡ letter ∷ (letters ++ drop (length letters) bytes)
     by true p e f = ap₂ _∷_ (eqb-true byte letter p) (f (omega arith))
     by false p e f = absurd (let z : ⊥ = omega arith in z)
+
+pub front : (word s : List ℕ) → begins word s ≡ true → s ≡ word ++ drop (length word) s
+unfolding begins
+front word s e = agree-front s word (eqb-true (agree s word) (length word) e)
 
 -- a room `l` in which `done` has been written from the front, `at` being the next place
 pub record Put (done room l : List ℕ) (at : ℕ) : Type 0 where

@@ -1,6 +1,7 @@
 -- Bytes at a place of lent room, and words at the front of a slice.
 use Prim.Native.Nat.{ℕ, suc, _+_}
 use mathlib.Core.List.{List, [], _∷_, _++_}
+use mathlib.Core.Bool.{Bool, _&&_}
 use lib.ListN.{length, take, drop}
 use Rattle.words.specs.Tests.{if_then_else_, _≤?_, _=?_}
 
@@ -19,3 +20,11 @@ unfoldable pub agree : List ℕ → List ℕ → ℕ
 agree s [] = 0
 agree [] (letter ∷ letters) = 0
 agree (byte ∷ bytes) (letter ∷ letters) = if byte =? letter then suc (agree bytes letters) else 0
+
+-- the word stands at the front
+unfoldable pub begins : (word s : List ℕ) → Bool
+begins word s = agree s word =? length word
+
+-- it is the word and nothing else
+unfoldable pub isExactly : (word s : List ℕ) → Bool
+isExactly word s = begins word s && (length s =? length word)

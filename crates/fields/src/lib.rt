@@ -6,7 +6,7 @@ ghost use Prim.Native.Nat.{_+_, _*_, _≤_};
 ghost use lib.ListN.{length, drop, getD};
 ghost use Rattle.words.specs.Tests.{_<?_};
 ghost use Rattle.fields.specs.Decimals.{isDigit, digits, readOn, numberAt};
-ghost use Rattle.fields.specs.Places.{agree, putAt, nextPlace};
+ghost use Rattle.fields.specs.Places.{agree, begins, isExactly, putAt, nextPlace};
 
 // What stands where a number should: its value and how many bytes it takes, or the place of the first byte at which
 // no number could go on.
@@ -153,6 +153,20 @@ pub fn agreement(s: &[u8], word: &[u8]) -> usize
         i += 1;
     }
     i
+}
+
+// Does the word stand at the front?
+pub fn starts(s: &[u8], word: &[u8]) -> bool
+    ensures { λ r. ⌜ r ≡ begins (now (word .entry)) (now (s .entry)) ⌝ }
+{
+    agreement(s, word) == word.len()
+}
+
+// Is it the word and nothing else?
+pub fn is_exactly(s: &[u8], word: &[u8]) -> bool
+    ensures { λ r. ⌜ r ≡ isExactly (now (word .entry)) (now (s .entry)) ⌝ }
+{
+    starts(s, word) & (s.len() == word.len())
 }
 
 // The part of the slice that begins at `at`; nothing, where that is past the end.

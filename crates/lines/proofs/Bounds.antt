@@ -16,7 +16,7 @@ use Rattle.messages.specs.declared.Status.the-variants.{Alive, Dead}
 use Rattle.messages.specs.declared.Message.{Message}
 use Rattle.messages.specs.declared.Message.the-variants.{LeaseRequest, LeaseGrant, Check, CheckAck}
 use Rattle.messages.specs.Messages.{topCounter, topReading, fieldsOf, statusWord, hasForm}
-use Rattle.lines.specs.Writing.{fitting, bytesOf, joined, lineOf, ackLine, writeSaid}
+use Rattle.lines.specs.Writing.{fitting, bytesOf, joined, lineOf, twoNumbers, writeSaid}
 use Rattle.lines.specs.Claims.{FortyFourAreEnough, FortyFourAreNeeded}
 use Rattle.lines.proofs.Lines.{fits-said, short-said, request-line, grant-line, check-line, alive-line, dead-line}
 
@@ -29,7 +29,7 @@ reading-most ts h = digits-most 12 ts (omega arith)
 one-most : (word : List ℕ) (n : ℕ) → length word ≤ 14 → length (digits n) ≤ 13 → length (word ++ digits n ++ (10 ∷ [])) ≤ 44
 one-most word n w d = simp length-append (omega arith)
 
-ack-most : (ts cnt : ℕ) (end : List ℕ) → ((ts ≤? topReading) && (cnt ≤? topCounter)) ≡ true → length end ≤ 7 → length (ackLine ts cnt end) ≤ 44
+ack-most : (ts cnt : ℕ) (end : List ℕ) → ((ts ≤? topReading) && (cnt ≤? topCounter)) ≡ true → length end ≤ 7 → length (twoNumbers (text "CHECK-ACK\t") ts cnt end) ≤ 44
 ack-most ts cnt end h l =
     let p = both-hold (ts ≤? topReading) (cnt ≤? topCounter) h in
     let r = reading-most ts (leb-true ts topReading (p .0)) in

@@ -19,7 +19,7 @@ use Rattle.lines.specs.declared.LineRead.the-variants.{Got, Bad}
 use Rattle.lines.specs.declared.LineWritten.{LineWritten}
 use Rattle.lines.specs.declared.LineWritten.the-variants.{Length, Bad as NotOfForm, Short}
 use Rattle.lines.specs.Answers.{saidOfRead, saidOfWritten}
-use Rattle.lines.specs.Writing.{fitting, filled, bytesOf, joined, lineOf, ackLine}
+use Rattle.lines.specs.Writing.{fitting, filled, bytesOf, joined, lineOf, twoNumbers}
 
 pub fits-said : (line room : List ℕ) → length line ≤ length room → fitting line room ≡ gives (length line)
 unfolding fitting
@@ -51,11 +51,11 @@ pub check-line : (ts : ℕ) → lineOf (Check ts) ≡ text "CHECK\t" ++ digits t
 unfolding lineOf joined bytesOf fieldsOf
 check-line ts = refl
 
-pub alive-line : (ts cnt : ℕ) → lineOf (CheckAck ts cnt Alive) ≡ ackLine ts cnt (text "\tAlive\n")
+pub alive-line : (ts cnt : ℕ) → lineOf (CheckAck ts cnt Alive) ≡ twoNumbers (text "CHECK-ACK\t") ts cnt (text "\tAlive\n")
 unfolding lineOf joined bytesOf fieldsOf statusWord
 alive-line ts cnt = simp append-assoc
 
-pub dead-line : (ts cnt : ℕ) → lineOf (CheckAck ts cnt Dead) ≡ ackLine ts cnt (text "\tDead\n")
+pub dead-line : (ts cnt : ℕ) → lineOf (CheckAck ts cnt Dead) ≡ twoNumbers (text "CHECK-ACK\t") ts cnt (text "\tDead\n")
 unfolding lineOf joined bytesOf fieldsOf statusWord
 dead-line ts cnt = simp append-assoc
 

@@ -14,15 +14,15 @@ use Rattle.words.specs.Said.Said.{refusal, gives}
 use Rattle.fields.specs.declared.Number.{Number}
 use Rattle.fields.specs.declared.Number.the-variants.{Value, Bad}
 use Rattle.fields.specs.Decimals.{digits, numberAt}
-use Rattle.fields.specs.Places.{agree}
+use Rattle.fields.specs.Places.{agree, begins, isExactly}
 use Rattle.fields.proofs.Reading.{digits-read, read-digits}
-use Rattle.fields.proofs.Rooms.{agree-front}
+use Rattle.fields.proofs.Rooms.{front}
 use Rattle.messages.specs.declared.Status.{Status}
 use Rattle.messages.specs.declared.Status.the-variants.{Alive, Dead}
 use Rattle.messages.specs.declared.Message.{Message}
 use Rattle.messages.specs.declared.Message.the-variants.{LeaseRequest, LeaseGrant, Check, CheckAck}
 use Rattle.messages.specs.Messages.{topCounter, topReading, fieldsOf, statusWord, hasForm}
-use Rattle.lines.specs.Reading.{begins, isExactly, ended, onlyNumber, oneOf, readAckStatus, statusBehind, readAckCounter, counterBehind, readAck, readLine}
+use Rattle.lines.specs.Reading.{ended, onlyNumber, oneOf, readAckStatus, statusBehind, readAckCounter, counterBehind, readAck, readLine}
 use Rattle.lines.specs.Writing.{fitting, filled, bytesOf, joined, lineOf, writeSaid, writeRoom}
 use Rattle.lines.specs.Claims.{WrittenIsRead, ReadIsWritten}
 use Rattle.lines.proofs.Lines.{fits-said, fits-room, request-line, grant-line, check-line}
@@ -78,10 +78,6 @@ line-read (CheckAck ts cnt Alive) h = ack-line ts cnt (text "Alive\n") (CheckAck
 line-read (CheckAck ts cnt Dead) h = ack-line ts cnt (text "Dead\n") (CheckAck ts cnt Dead) h refl
 
 -- ---- what is read is what is written
-
-front : (word s : List ℕ) → begins word s ≡ true → s ≡ word ++ drop (length word) s
-unfolding begins
-front word s e = agree-front s word (eqb-true (agree s word) (length word) e)
 
 exactly : (word s : List ℕ) → isExactly word s ≡ true → s ≡ word
 unfolding isExactly

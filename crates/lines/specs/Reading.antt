@@ -1,29 +1,21 @@
 -- Reading a message line. "Each field is read where it begins in the line": a field's reader gets what the line holds from
 -- there on.
 use Prim.Native.Nat.{ℕ}
-use mathlib.Core.Bool.{Bool, true, false, _&&_}
+use mathlib.Core.Bool.{Bool, true, false}
 use mathlib.Core.List.{List}
-use lib.ListN.{length, drop}
-use Rattle.words.specs.Tests.{if_then_else_, _=?_}
+use lib.ListN.{drop}
+use Rattle.words.specs.Tests.{if_then_else_}
 use Rattle.words.specs.Lists.{text}
 use Rattle.words.specs.Said.{Said}
 use Rattle.words.specs.Said.Said.{refusal, gives}
 use Rattle.fields.specs.declared.Number.{Number}
 use Rattle.fields.specs.declared.Number.the-variants.{Value, Bad}
 use Rattle.fields.specs.Decimals.{numberAt}
-use Rattle.fields.specs.Places.{agree}
+use Rattle.fields.specs.Places.{begins, isExactly}
 use Rattle.messages.specs.declared.Status.the-variants.{Alive, Dead}
 use Rattle.messages.specs.declared.Message.{Message}
 use Rattle.messages.specs.declared.Message.the-variants.{LeaseRequest, LeaseGrant, Check, CheckAck}
 use Rattle.messages.specs.Messages.{topCounter, topReading}
-
--- the word stands at the front
-unfoldable pub begins : (word s : List ℕ) → Bool
-begins word s = agree s word =? length word
-
--- it is the word and nothing else
-unfoldable pub isExactly : (word s : List ℕ) → Bool
-isExactly word s = begins word s && (length s =? length word)
 
 -- a number and the line feed that ends the line
 unfoldable pub ended : List ℕ → Number → Number

@@ -34,9 +34,12 @@ fitting line room = if length room <? length line then refusal 10 else gives (le
 unfoldable pub filled : (line room : List ℕ) → List ℕ
 filled line room = if length room <? length line then room else line ++ drop (length line) room
 
--- the line of an ack with the end that the code writes in one piece
-abbrev pub ackLine : (ts cnt : ℕ) (end : List ℕ) → List ℕ
-ackLine ts cnt end = text "CHECK-ACK\t" ++ digits ts ++ text "\t" ++ digits cnt ++ end
+-- the lines as the code writes them: a word with its tab and one number; or two numbers, and an end in one piece
+abbrev pub oneNumber : (front : List ℕ) (k : ℕ) → List ℕ
+oneNumber front k = front ++ digits k ++ text "\n"
+
+abbrev pub twoNumbers : (front : List ℕ) (first second : ℕ) (end : List ℕ) → List ℕ
+twoNumbers front first second end = front ++ digits first ++ text "\t" ++ digits second ++ end
 
 -- Any message, any room: 9 for a message not of the form, whatever the room; then 10; else the length.
 unfoldable pub writeSaid : Message → List ℕ → Said ℕ

@@ -1,21 +1,20 @@
 // Message lines: one line of text for each message, read from any bytes and written into lent room. Serves document 01,
 // "Message lines". Each field is read from the part of the line that begins where the field begins.
 use fields::Number;
-use fields::agreement;
 use fields::digit_count;
+use fields::is_exactly;
 use fields::part_from;
 use fields::put_bytes;
 use fields::put_number;
 use fields::read_number;
+use fields::starts;
 use messages::Message;
 use messages::Status;
 ghost use mathlib.Core.Path.{_≡_};
-ghost use mathlib.Core.List.{_++_, _∷_, []};
-ghost use Rattle.fields.specs.Decimals.{digits};
 ghost use Rattle.messages.specs.Messages.{hasForm};
 ghost use Rattle.messages.specs.declared.Message.the-variants.{LeaseRequest, LeaseGrant, Check};
-ghost use Rattle.lines.specs.Reading.{begins, isExactly, onlyNumber, oneOf, readAckStatus, readAckCounter, readAck, readLine};
-ghost use Rattle.lines.specs.Writing.{fitting, filled, ackLine, writeSaid, writeRoom};
+ghost use Rattle.lines.specs.Reading.{onlyNumber, oneOf, readAckStatus, readAckCounter, readAck, readLine};
+ghost use Rattle.lines.specs.Writing.{fitting, filled, oneNumber, twoNumbers, writeSaid, writeRoom};
 ghost use Rattle.lines.specs.Answers.{saidOfRead, saidOfWritten};
 ghost use Rattle.lines.specs.Claims.{WrittenIsRead, ReadIsWritten, FortyFourAreEnough, FortyFourAreNeeded};
 
@@ -30,20 +29,6 @@ pub enum LineWritten {
     Length(usize),
     Bad,
     Short,
-}
-
-// Does the word stand at the front?
-fn starts(s: &[u8], word: &[u8]) -> bool
-    ensures { λ r. ⌜ r ≡ begins (now (word .entry)) (now (s .entry)) ⌝ }
-{
-    agreement(s, word) == word.len()
-}
-
-// Is it the word and nothing else?
-fn is_exactly(s: &[u8], word: &[u8]) -> bool
-    ensures { λ r. ⌜ r ≡ isExactly (now (word .entry)) (now (s .entry)) ⌝ }
-{
-    starts(s, word) & (s.len() == word.len())
 }
 
 // The number that is all of the part but its line feed.
@@ -158,9 +143,20 @@ fn has_form(m: Message) -> bool
     }
 }
 
+// A line of a word, which holds its line feed already.
+pub fn write_word(word: &[u8], out: &mut [u8]) -> LineWritten
+    ensures { λ r. ⌜ (saidOfWritten r ≡ fitting (now (word .entry)) (now (out .entry))) × (now (out .exit) ≡ filled (now (word .entry)) (now (out .entry))) ⌝ }
+{
+    let length = word.len();
+    if out.len() < length {
+        return LineWritten::Short;
+    }
+    LineWritten::Length(put_bytes(out, 0, word))
+}
+
 // A line of one number behind its word.
-fn write_one(word: &[u8], number: u64, out: &mut [u8]) -> LineWritten
-    ensures { λ r. ⌜ (saidOfWritten r ≡ fitting (now (word .entry) ++ digits number ++ (10 ∷ [])) (now (out .entry))) × (now (out .exit) ≡ filled (now (word .entry) ++ digits number ++ (10 ∷ [])) (now (out .entry))) ⌝ }
+pub fn write_one(word: &[u8], number: u64, out: &mut [u8]) -> LineWritten
+    ensures { λ r. ⌜ (saidOfWritten r ≡ fitting (oneNumber (now (word .entry)) number) (now (out .entry))) × (now (out .exit) ≡ filled (oneNumber (now (word .entry)) number) (now (out .entry))) ⌝ }
 {
     if out.len() < word.len() + digit_count(number) + 1 {
         return LineWritten::Short;
@@ -170,17 +166,21 @@ fn write_one(word: &[u8], number: u64, out: &mut [u8]) -> LineWritten
     LineWritten::Length(put_bytes(out, end_at, b"\n"))
 }
 
-// The line of an ack, whose end is its status with the tab before it and the line feed.
-fn write_ack(ts: u64, counter: u64, end: &[u8], out: &mut [u8]) -> LineWritten
-    ensures { λ r. ⌜ (saidOfWritten r ≡ fitting (ackLine ts counter (now (end .entry))) (now (out .entry))) × (now (out .exit) ≡ filled (ackLine ts counter (now (end .entry))) (now (out .entry))) ⌝ }
+// A line of two numbers behind its word, parted by a tab, with what ends it, its line feed in it.
+pub fn write_two(word: &[u8], first: u64, second: u64, end: &[u8], out: &mut [u8]) -> LineWritten
+    ensures { λ r. ⌜ (saidOfWritten r ≡ fitting (twoNumbers (now (word .entry)) first second (now (end .entry))) (now (out .entry))) × (now (out .exit) ≡ filled (twoNumbers (now (word .entry)) first second (now (end .entry))) (now (out .entry))) ⌝ }
 {
-    if out.len() < 11 + digit_count(ts) + digit_count(counter) + end.len() {
+    if out.len() < word.len() {
         return LineWritten::Short;
     }
-    let ts_at = put_bytes(out, 0, b"CHECK-ACK\t");
-    let tab_at = put_number(out, ts_at, ts);
-    let counter_at = put_bytes(out, tab_at, b"\t");
-    let end_at = put_number(out, counter_at, counter);
+    let left = out.len() - word.len();
+    if left < digit_count(first) + 1 + digit_count(second) + end.len() {
+        return LineWritten::Short;
+    }
+    let first_at = put_bytes(out, 0, word);
+    let tab_at = put_number(out, first_at, first);
+    let second_at = put_bytes(out, tab_at, b"\t");
+    let end_at = put_number(out, second_at, second);
     LineWritten::Length(put_bytes(out, end_at, end))
 }
 
@@ -197,8 +197,8 @@ pub fn write_line(m: Message, out: &mut [u8]) -> LineWritten
         Message::LeaseGrant(counter) => write_one(b"LEASE-GRANT\t", counter, out),
         Message::Check(ts) => write_one(b"CHECK\t", ts, out),
         Message::CheckAck(ts, counter, status) => match status {
-            Status::Alive => write_ack(ts, counter, b"\tAlive\n", out),
-            Status::Dead => write_ack(ts, counter, b"\tDead\n", out),
+            Status::Alive => write_two(b"CHECK-ACK\t", ts, counter, b"\tAlive\n", out),
+            Status::Dead => write_two(b"CHECK-ACK\t", ts, counter, b"\tDead\n", out),
         },
     }
 }

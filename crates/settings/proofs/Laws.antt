@@ -119,7 +119,7 @@ pub record Accepted (s : Settings) : Type 0 where
   pub c : P s ≤ 64 * η s
 
 -- no line of the table of refusals applies
-passes : (s : Settings) → refusalOf s ≡ 0
+pub passes : (s : Settings) → refusalOf s ≡ 0
     → (inRange s ≡ true) × ((negative (slackA s) || negative (slackB s) || negative (slackC s)) ≡ false)
 unfolding refusalOf every
 passes s e = (not-false _ (none-applies _ e refl 0), none-applies _ e refl 1)

@@ -7,3 +7,4 @@ pub mod OfRecorder
 pub mod OfObserver
 pub mod OfLent
 pub mod OfStandby
+pub mod OfFiles

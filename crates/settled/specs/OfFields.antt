@@ -7,6 +7,8 @@ use Rattle.fields.proofs.digit_count as digit-count
 use Rattle.fields.proofs.put_number as put-number
 use Rattle.fields.proofs.put_bytes as put-bytes
 use Rattle.fields.proofs.agreement as agreement
+use Rattle.fields.proofs.starts as starts
+use Rattle.fields.proofs.is_exactly as is-exactly
 use Rattle.fields.proofs.part_from as part-from
 
 pub record FieldsSettled : Type 0 where
@@ -15,5 +17,7 @@ pub record FieldsSettled : Type 0 where
   pub «put_number» : Settled put-number.Kinds.ps put-number.Kinds.r put-number.Reads.Post
   pub «put_bytes» : Settled put-bytes.Kinds.ps put-bytes.Kinds.r put-bytes.Reads.Post
   pub agreement : Settled agreement.Kinds.ps agreement.Kinds.r agreement.Reads.Post
+  pub starts : Settled starts.Kinds.ps starts.Kinds.r starts.Reads.Post
+  pub «is_exactly» : Settled is-exactly.Kinds.ps is-exactly.Kinds.r is-exactly.Reads.Post
   -- The result is a reference: settled are the bytes that it refers to. The contract does not say where they lie.
   pub «part_from» : SettledBy part-from.Kinds.ps part-from.Kinds.r (λ κs x x′. now x ≡ now x′) part-from.Reads.Post

@@ -8,6 +8,7 @@ ghost use Rattle.settled.specs.OfRecorder.{RecorderSettled};
 ghost use Rattle.settled.specs.OfObserver.{ObserverSettled};
 ghost use Rattle.settled.specs.OfLent.{LentSettled};
 ghost use Rattle.settled.specs.OfStandby.{StandbySettled};
+ghost use Rattle.settled.specs.OfFiles.{FilesSettled};
 
 // The public functions of `settings`.
 pub fn settings_settled()
@@ -42,4 +43,9 @@ pub fn lent_settled()
 // The public functions of `standby`.
 pub fn standby_settled()
     ensures { λ _. ⌜ StandbySettled ⌝ }
+{}
+
+// The public functions of `step_lines`, `answer_lines`, `session` and `stepfile`.
+pub fn files_settled()
+    ensures { λ _. ⌜ FilesSettled ⌝ }
 {}

@@ -3,7 +3,8 @@ use mathlib.Core.Path.{_≡_, sym, _∙_}
 use mathlib.Core.Bool.{false}
 use denote.Ref.{now}
 use Rattle.words.specs.Lists.{text}
-use Rattle.lines.specs.Reading.{begins, readLine}
+use Rattle.fields.specs.Places.{begins}
+use Rattle.lines.specs.Reading.{readLine}
 use borrow.Author.Needs.{needs}
 use Rattle.lines.proofs.read_line.Statement.{statement}
 use Rattle.lines.proofs.read_line.Tie as tie

@@ -54,20 +54,26 @@ enum-known-m-4 c = search needs
 enum-told : tie.Need-enum-told
 enum-told c = search needs
 
-slice-aggregate-write-ack : tie.Need-slice-aggregate-write-ack
-slice-aggregate-write-ack c = search needs
+slice-aggregate-write-two : tie.Need-slice-aggregate-write-two
+slice-aggregate-write-two c = search needs
 
-write-ack-requires : tie.Need-write-ack-requires
-write-ack-requires c κs = search needs
+slice-aggregate-write-two-2 : tie.Need-slice-aggregate-write-two-2
+slice-aggregate-write-two-2 c = search needs
+
+write-two-requires : tie.Need-write-two-requires
+write-two-requires c κs = search needs
 
 enum-told-2 : tie.Need-enum-told-2
 enum-told-2 c = search needs
 
-slice-aggregate-write-ack-2 : tie.Need-slice-aggregate-write-ack-2
-slice-aggregate-write-ack-2 c = search needs
+slice-aggregate-write-two-3 : tie.Need-slice-aggregate-write-two-3
+slice-aggregate-write-two-3 c = search needs
 
-write-ack-requires-2 : tie.Need-write-ack-requires-2
-write-ack-requires-2 c κs = search needs
+slice-aggregate-write-two-4 : tie.Need-slice-aggregate-write-two-4
+slice-aggregate-write-two-4 c = search needs
+
+write-two-requires-2 : tie.Need-write-two-requires-2
+write-two-requires-2 c κs = search needs
 
 same-length : tie.Need-same-length
 same-length c = search needs
@@ -108,10 +114,10 @@ same-length-4 c = search needs
 returns-5 : tie.Need-returns-5
 unfolding writeSaid writeRoom
 returns-5 c =
-    let m = c .before .before .before .before .before .before .before .before .m4 .given in
-    let e = m .1 ∙ ap (CheckAck (m .0 .0) (m .0 .1 .0)) (c .before .before .before .before .before .enum-told .given .1) in
-    let f = formed (c .before .before .before .before .before .before .before .before .before .before) in
-    rw (f, e, alive-line (m .0 .0) (m .0 .1 .0)) (c .before .before .write-ack .ensures)
+    let m = c .before .before .before .before .before .before .before .before .before .m4 .given in
+    let e = m .1 ∙ ap (CheckAck (m .0 .0) (m .0 .1 .0)) (c .before .before .before .before .before .before .enum-told .given .1) in
+    let f = formed (c .before .before .before .before .before .before .before .before .before .before .before) in
+    rw (f, e, alive-line (m .0 .0) (m .0 .1 .0)) (c .before .before .write-two .ensures)
 
 same-length-5 : tie.Need-same-length-5
 same-length-5 c = search needs
@@ -119,10 +125,10 @@ same-length-5 c = search needs
 returns-6 : tie.Need-returns-6
 unfolding writeSaid writeRoom
 returns-6 c =
-    let m = c .before .before .before .before .before .before .before .before .m4 .given in
-    let e = m .1 ∙ ap (CheckAck (m .0 .0) (m .0 .1 .0)) (c .before .before .before .before .before .enum-told2 .given .1) in
-    let f = formed (c .before .before .before .before .before .before .before .before .before .before) in
-    rw (f, e, dead-line (m .0 .0) (m .0 .1 .0)) (c .before .before .write-ack2 .ensures)
+    let m = c .before .before .before .before .before .before .before .before .before .m4 .given in
+    let e = m .1 ∙ ap (CheckAck (m .0 .0) (m .0 .1 .0)) (c .before .before .before .before .before .before .enum-told2 .given .1) in
+    let f = formed (c .before .before .before .before .before .before .before .before .before .before .before) in
+    rw (f, e, dead-line (m .0 .0) (m .0 .1 .0)) (c .before .before .write-two2 .ensures)
 
 pub write-line-spec : {M : Type 1} → statement M
 write-line-spec =
@@ -141,11 +147,13 @@ write-line-spec =
     write-one-requires-3
     enum-known-m-4
     enum-told
-    slice-aggregate-write-ack
-    write-ack-requires
+    slice-aggregate-write-two
+    slice-aggregate-write-two-2
+    write-two-requires
     enum-told-2
-    slice-aggregate-write-ack-2
-    write-ack-requires-2
+    slice-aggregate-write-two-3
+    slice-aggregate-write-two-4
+    write-two-requires-2
     same-length
     returns-2
     same-length-2

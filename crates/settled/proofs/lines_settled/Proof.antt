@@ -8,6 +8,9 @@ returns : tie.Need-returns
 returns c = record {
   «read_line» = λ _ _ _ _ _ _ p q. (read-apart (p ∙ sym q), refl);
   «write_line» = λ _ _ _ _ _ _ p q. (written-apart (p .0 ∙ sym (q .0)), ap (λ out. (tt, (out, tt))) (p .1 ∙ sym (q .1)));
+  «write_word» = λ _ _ _ _ _ _ p q. (written-apart (p .0 ∙ sym (q .0)), ap (λ out. (tt, (out, tt))) (p .1 ∙ sym (q .1)));
+  «write_one» = λ _ _ _ _ _ _ p q. (written-apart (p .0 ∙ sym (q .0)), ap (λ out. (tt, (tt, (out, tt)))) (p .1 ∙ sym (q .1)));
+  «write_two» = λ _ _ _ _ _ _ p q. (written-apart (p .0 ∙ sym (q .0)), ap (λ out. (tt, (tt, (tt, (tt, (out, tt)))))) (p .1 ∙ sym (q .1)));
 }
 
 pub lines-settled-spec : {M : Type 1} → statement M

@@ -1,0 +1,3 @@
+-- Laws of the answers' lines, for the crates above.
+pub mod Lines
+pub mod OneLine

@@ -1,0 +1,3 @@
+-- Laws of a session.
+pub mod Sized
+pub mod Spoken

@@ -1,0 +1,3 @@
+-- Document 01, "Program `rackrun`": what a step line does to the records.
+pub mod Session
+pub mod Outcome

@@ -1,0 +1,48 @@
+-- The word behind the reading decides. Assumes nothing.
+use Rattle.step_lines.specs.Reading.{recorderEvent}
+use borrow.Author.Needs.{needs}
+use Rattle.step_lines.proofs.recorder_event.Statement.{statement}
+use Rattle.step_lines.proofs.recorder_event.Tie as tie
+
+slice-aggregate-is-exactly : tie.Need-slice-aggregate-is-exactly
+slice-aggregate-is-exactly c = search needs
+
+is-exactly-requires : tie.Need-is-exactly-requires
+is-exactly-requires c κs = search needs
+
+returns : tie.Need-returns
+unfolding recorderEvent
+returns c = rw (← (c .before .is-exactly .ensures), c .if1 .taken)
+
+slice-aggregate-is-exactly-2 : tie.Need-slice-aggregate-is-exactly-2
+slice-aggregate-is-exactly-2 c = search needs
+
+is-exactly-requires-2 : tie.Need-is-exactly-requires-2
+is-exactly-requires-2 c κs = search needs
+
+returns-2 : tie.Need-returns-2
+unfolding recorderEvent
+returns-2 c = rw (← (c .before .before .before .before .is-exactly .ensures), c .before .before .before .if1 .left, ← (c .before .is-exactly2 .ensures), c .if2 .taken)
+
+slice-aggregate-starts : tie.Need-slice-aggregate-starts
+slice-aggregate-starts c = search needs
+
+starts-requires : tie.Need-starts-requires
+starts-requires c κs = search needs
+
+part-from-requires : tie.Need-part-from-requires
+part-from-requires c κs = search needs
+
+grant-numbers-requires : tie.Need-grant-numbers-requires
+grant-numbers-requires c κs = search needs
+
+returns-3 : tie.Need-returns-3
+unfolding recorderEvent
+returns-3 c = rw (← (c .before .before .before .before .before .before .before .before .before .is-exactly .ensures), c .before .before .before .before .before .before .before .before .if1 .left, ← (c .before .before .before .before .before .before .is-exactly2 .ensures), c .before .before .before .before .before .if2 .left, ← (c .before .before .before .starts .ensures), c .before .before .if3 .taken, ← (c .before .part-from .ensures)) (c .grant-numbers .ensures)
+
+returns-4 : tie.Need-returns-4
+unfolding recorderEvent
+returns-4 c = rw (← (c .before .before .before .before .before .before .before .is-exactly .ensures), c .before .before .before .before .before .before .if1 .left, ← (c .before .before .before .before .is-exactly2 .ensures), c .before .before .before .if2 .left, ← (c .before .starts .ensures), c .if3 .left)
+
+pub recorder-event-spec : {M : Type 1} → statement M
+recorder-event-spec = tie.close (tie.spec slice-aggregate-is-exactly is-exactly-requires returns slice-aggregate-is-exactly-2 is-exactly-requires-2 returns-2 slice-aggregate-starts starts-requires part-from-requires grant-numbers-requires returns-3 returns-4)

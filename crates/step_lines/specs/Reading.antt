@@ -1,0 +1,103 @@
+-- The lines of a step file, each form as document 01 writes it. What is no line of the forms is bad.
+use Prim.Native.Nat.{ℕ}
+use mathlib.Core.Bool.{Bool, _&&_}
+use mathlib.Core.List.{List}
+use lib.ListN.{drop, getD}
+use Rattle.words.specs.Tests.{if_then_else_}
+use Rattle.words.specs.Lists.{text}
+use Rattle.fields.specs.Places.{begins, isExactly}
+use Rattle.messages.specs.declared.Status.the-variants.{Alive, Dead}
+use Rattle.settings.specs.declared.Settings.{Settings}
+use Rattle.settings.specs.Settings.{settings}
+use Rattle.step_lines.specs.declared.Row.{Row}
+use Rattle.step_lines.specs.declared.StepLine.{StepLine}
+use Rattle.step_lines.specs.declared.StepLine.the-variants.{Tick, Drive, Grant, Request, Cut, Check, Begin, Poll, Ack, Bad}
+use Rattle.step_lines.specs.declared.SettingsLine.{SettingsLine}
+use Rattle.step_lines.specs.declared.SettingsLine.the-variants.{Given, Bad as NoSettings}
+use Rattle.step_lines.specs.Rows.{row}
+
+-- the k-th number of a row
+abbrev pub at : Row → ℕ → ℕ
+at r k = getD (r .numbers) k 0
+
+-- what the line holds behind a row at its front
+abbrev pub behindRow : List ℕ → Row → List ℕ
+behindRow s r = drop (r .behind) s
+
+-- the row stands there, and behind it the end of the line
+unfoldable pub closedBy : List ℕ → List ℕ → Row → Bool
+closedBy end s r = r .good && isExactly end (behindRow s r)
+
+-- `SETTINGS` with the seven numbers
+abbrev pub settingsOf : Row → Settings
+settingsOf r = settings (at r 0) (at r 1) (at r 2) (at r 3) (at r 4) (at r 5) (at r 6)
+
+unfoldable pub settingsNumbers : List ℕ → Row → SettingsLine
+settingsNumbers s r = if closedBy (text "\n") s r then Given (settingsOf r) else NoSettings
+
+unfoldable pub settingsLine : List ℕ → SettingsLine
+settingsLine s = if begins (text "SETTINGS") s then settingsNumbers (drop 8 s) (row (drop 8 s) 7) else NoSettings
+
+-- `R r tick`, `R r drive`, `R r grant x j`, from behind the R; a part's row stands before what it belongs to
+unfoldable pub grantNumbers : (r : ℕ) → List ℕ → Row → StepLine
+grantNumbers r s v = if closedBy (text "\n") s v then Grant r (at v 0) (at v 1) else Bad
+
+unfoldable pub recorderEvent : (r : ℕ) → List ℕ → StepLine
+recorderEvent r s =
+    if isExactly (text "\ttick\n") s then Tick r
+    else if isExactly (text "\tdrive\n") s then Drive r
+    else if begins (text "\tgrant") s then grantNumbers r (drop 6 s) (row (drop 6 s) 2)
+    else Bad
+
+unfoldable pub recorderNumbers : List ℕ → Row → StepLine
+recorderNumbers s v = if v .good then recorderEvent (at v 0) (behindRow s v) else Bad
+
+-- `O x r request c`, `O x r request c cut k`, `O x r check ts`, from behind the O
+unfoldable pub cutNumbers : (x r c : ℕ) → List ℕ → Row → StepLine
+cutNumbers x r c s v = if closedBy (text "\n") s v then Cut x r c (at v 0) else Bad
+
+unfoldable pub requestEnd : (x r c : ℕ) → List ℕ → StepLine
+requestEnd x r c s =
+    if isExactly (text "\n") s then Request x r c
+    else if begins (text "\tcut") s then cutNumbers x r c (drop 4 s) (row (drop 4 s) 1)
+    else Bad
+
+unfoldable pub requestNumbers : (x r : ℕ) → List ℕ → Row → StepLine
+requestNumbers x r s v = if v .good then requestEnd x r (at v 0) (behindRow s v) else Bad
+
+unfoldable pub checkNumbers : (x r : ℕ) → List ℕ → Row → StepLine
+checkNumbers x r s v = if closedBy (text "\n") s v then Check x r (at v 0) else Bad
+
+unfoldable pub observerEvent : (x r : ℕ) → List ℕ → StepLine
+observerEvent x r s =
+    if begins (text "\trequest") s then requestNumbers x r (drop 8 s) (row (drop 8 s) 1)
+    else if begins (text "\tcheck") s then checkNumbers x r (drop 6 s) (row (drop 6 s) 1)
+    else Bad
+
+unfoldable pub observerNumbers : List ℕ → Row → StepLine
+observerNumbers s v = if v .good then observerEvent (at v 0) (at v 1) (behindRow s v) else Bad
+
+-- `Q r begin`, `Q r poll`, `Q r ack x ts cnt Alive` (or `Dead`), from behind the Q
+unfoldable pub ackNumbers : (r : ℕ) → List ℕ → Row → StepLine
+ackNumbers r s v =
+    if closedBy (text "\tAlive\n") s v then Ack r (at v 0) (at v 1) (at v 2) Alive
+    else if closedBy (text "\tDead\n") s v then Ack r (at v 0) (at v 1) (at v 2) Dead
+    else Bad
+
+unfoldable pub standbyEvent : (r : ℕ) → List ℕ → StepLine
+standbyEvent r s =
+    if isExactly (text "\tbegin\n") s then Begin r
+    else if isExactly (text "\tpoll\n") s then Poll r
+    else if begins (text "\tack") s then ackNumbers r (drop 4 s) (row (drop 4 s) 3)
+    else Bad
+
+unfoldable pub standbyNumbers : List ℕ → Row → StepLine
+standbyNumbers s v = if v .good then standbyEvent (at v 0) (behindRow s v) else Bad
+
+-- The line. A line feed ends it, so one without is bad.
+unfoldable pub stepLine : List ℕ → StepLine
+stepLine s =
+    if begins (text "R") s then recorderNumbers (drop 1 s) (row (drop 1 s) 1)
+    else if begins (text "O") s then observerNumbers (drop 1 s) (row (drop 1 s) 2)
+    else if begins (text "Q") s then standbyNumbers (drop 1 s) (row (drop 1 s) 1)
+    else Bad

@@ -1,0 +1,144 @@
+// A step file in, its answers out, as bytes. Serves document 01, "Program `rackrun`". The file is split into lines, each line
+// performs one step on the session, and its answer is one line: what is written is a function of the input.
+use answer_lines::write_answer;
+use answer_lines::write_settings_answer;
+use fields::part_from;
+use lines::LineWritten;
+use messages::Answer;
+use session::perform;
+use session::start;
+use settings::Settings;
+use settings::refusal;
+use step_lines::SettingsLine;
+use step_lines::read_settings_line;
+use step_lines::read_step_line;
+ghost use mathlib.Core.Path.{_≡_};
+ghost use Prim.Native.Nat.{_+_, _-_, _*_, _≤_, _<_};
+ghost use lib.ListN.{length, take, drop};
+ghost use Rattle.fields.specs.Places.{putAt};
+ghost use Rattle.lines.specs.Answers.{saidOfWritten};
+ghost use Rattle.session.specs.Session.{started};
+ghost use Rattle.stepfile.specs.Lines.{lineLength, linesOf};
+ghost use Rattle.stepfile.specs.Claims.{LinesMakeTheFile, RoomIsEnough, OneLineEach};
+ghost use Rattle.stepfile.specs.Files.{lengthSaid, answersTo, answersOf, saidOfAnswered, answeredSaid, answeredRoom};
+
+// The longest input.
+pub const MOST_BYTES: usize = 65536;
+
+// What is answered: the length of all answers, or 10, the room being too short.
+pub enum Answered {
+    Length(usize),
+    Short,
+}
+
+// The length of the line at the front, its line feed counted.
+fn line_length(s: &[u8]) -> usize
+    ensures { λ r. ⌜ r ≡ lineLength (now (s .entry)) ⌝ }
+{
+    let mut i: usize = 0;
+    while i < s.len() {
+        if s[i] == 10 {
+            return i + 1;
+        }
+        i += 1;
+    }
+    i
+}
+
+// The first bytes, or all where there are fewer.
+fn front_of(s: &[u8], count: usize) -> &[u8]
+    ensures { λ r. ⌜ now r ≡ take count (now (s .entry)) ⌝ }
+{
+    let length = s.len();
+    if count <= length {
+        &s[..count]
+    } else {
+        &s[..length]
+    }
+}
+
+fn length_of(written: LineWritten) -> usize
+    ensures { λ r. ⌜ r ≡ lengthSaid (saidOfWritten written) ⌝ }
+{
+    match written {
+        LineWritten::Length(count) => count,
+        LineWritten::Bad => 0,
+        LineWritten::Short => 0,
+    }
+}
+
+// Answers the step lines from `first` on, writing from `begin` on, and gives the place behind the answers.
+fn answer_steps(input: &[u8], first: usize, s: Settings, out: &mut [u8], begin: usize) -> usize
+    requires { ⌜ (first ≤ length (now input)) × (length (now input) ≤ 65536) × (begin + 7 * (length (now input) - first) ≤ length (now out)) ⌝ }
+    ensures { λ r. ⌜ (r ≡ begin + length (answersTo (started s) (linesOf (drop first (now (input .entry)))))) × (now (out .exit) ≡ putAt (now (out .entry)) begin (answersTo (started s) (linesOf (drop first (now (input .entry)))))) ⌝ }
+{
+    let mut session = start(s);
+    let mut from = first;
+    let mut at = begin;
+    while from < input.len() {
+        let rest = part_from(input, from);
+        let count = line_length(rest);
+        let performed = perform(session, read_step_line(front_of(rest, count)));
+        let answer = performed.answer;
+        let next = performed.session;
+        session = next;
+        at += length_of(write_answer(answer, &mut out[at..]));
+        from += count;
+    }
+    at
+}
+
+// Answers the lines of an input that is not empty.
+fn answer_lines_of(input: &[u8], out: &mut [u8]) -> usize
+    requires { ⌜ (0 < length (now input)) × (length (now input) ≤ 65536) × (7 * length (now input) ≤ length (now out)) ⌝ }
+    ensures { λ r. ⌜ (r ≡ length (answersOf (linesOf (now (input .entry))))) × (now (out .exit) ≡ putAt (now (out .entry)) 0 (answersOf (linesOf (now (input .entry))))) ⌝ }
+{
+    let count = line_length(input);
+    let first = read_settings_line(front_of(input, count));
+    match first {
+        SettingsLine::Given(s) => {
+            let at = length_of(write_settings_answer(s, out));
+            if refusal(s) == 0 {
+                answer_steps(input, count, s, out, at)
+            } else {
+                at
+            }
+        }
+        SettingsLine::Bad => length_of(write_answer(Answer::Refused(9), out)),
+    }
+}
+
+// The answers to a step file, written at the front of the room. With less room than is enough for every input of that length
+// it writes nothing and answers 10.
+pub fn answer_file(input: &[u8], out: &mut [u8]) -> Answered
+    ensures { λ r. ⌜ (saidOfAnswered r ≡ answeredSaid (now (input .entry)) (now (out .entry))) × (now (out .exit) ≡ answeredRoom (now (input .entry)) (now (out .entry))) ⌝ }
+{
+    if MOST_BYTES < input.len() {
+        if out.len() < 3 {
+            return Answered::Short;
+        }
+        return Answered::Length(length_of(write_answer(Answer::Refused(10), out)));
+    }
+    if out.len() < 7 * input.len() {
+        return Answered::Short;
+    }
+    if input.len() == 0 {
+        return Answered::Length(0);
+    }
+    Answered::Length(answer_lines_of(input, out))
+}
+
+// Splitting loses nothing.
+pub fn lines_make_the_file()
+    ensures { λ _. ⌜ LinesMakeTheFile ⌝ }
+{}
+
+// The room that is asked for is enough.
+pub fn room_is_enough()
+    ensures { λ _. ⌜ RoomIsEnough ⌝ }
+{}
+
+// Each line gets exactly one line, until the run ends.
+pub fn one_line_each()
+    ensures { λ _. ⌜ OneLineEach ⌝ }
+{}
