@@ -1,3 +1,2 @@
 -- Laws of a session.
-pub mod Sized
 pub mod Spoken

@@ -27,7 +27,13 @@ use Rattle.standby.specs.Standby as Q
 use Rattle.step_lines.specs.declared.StepLine.{StepLine}
 use Rattle.step_lines.specs.declared.StepLine.the-variants as line
 use Rattle.session.specs.declared.Session.{Session}
-use Rattle.session.specs.Session.{observerAt, withRecorder, withObserver, withStandby, performOf}
+use Rattle.step_lines.specs.declared.RecorderStep.{RecorderStep}
+use Rattle.step_lines.specs.declared.RecorderStep.the-variants.{Tick, Drive, Grant}
+use Rattle.step_lines.specs.declared.ObserverStep.{ObserverStep}
+use Rattle.step_lines.specs.declared.ObserverStep.the-variants.{Request, Cut as CutAfter, Check as CheckOf}
+use Rattle.step_lines.specs.declared.StandbyStep.{StandbyStep}
+use Rattle.step_lines.specs.declared.StandbyStep.the-variants.{Begin, Poll, Ack}
+use Rattle.session.specs.Session.{ofRecorder, ofObserver, ofStandby, observerAt, withRecorder, withObserver, withStandby, performOf}
 
 abbrev pub IsAnswer : Said Spoken → Type 0
 IsAnswer x = (a : Answer) × (x ≡ said a)
@@ -108,15 +114,27 @@ poll s q r = unless _ _ _ (either (Q.isLate (window s) q r) _ _ (record { is = (
 
 -- ---- the line
 
+of-recorder : (s : Settings) (rec : Recorder) (r : ℕ) (step : RecorderStep) → Answers (R.stepOf s rec r (ofRecorder step))
+unfolding R.stepOf
+of-recorder s rec r Tick = tick s rec r
+of-recorder s rec r Drive = drive s rec r
+of-recorder s rec r (Grant x j) = grant s rec r x j
+
+of-observer : (s : Settings) (o : Observer) (x r : ℕ) (step : ObserverStep) → Answers (O.stepOf s o x r (ofObserver step))
+unfolding O.stepOf
+of-observer s o x r (Request c) = request s o x r c
+of-observer s o x r (CutAfter c k) = cut s o x r c k
+of-observer s o x r (CheckOf ts) = check s o x r ts
+
+of-standby : (s : Settings) (q : Standby) (r : ℕ) (step : StandbyStep) → Answers (Q.stepWithin (window s) s q r (ofStandby step))
+unfolding Q.stepWithin
+of-standby s q r Begin = begin s q r
+of-standby s q r Poll = poll s q r
+of-standby s q r (Ack x ts cnt status) = ack s q r x ts cnt status
+
 pub performed : (q : Session) (l : StepLine) → IsAnswer (performOf q l .answer)
 unfolding performOf withRecorder withObserver withStandby said
-performed q (line.Tick r) = tick (q .settings) (q .recorder) r .is
-performed q (line.Drive r) = drive (q .settings) (q .recorder) r .is
-performed q (line.Grant r x j) = grant (q .settings) (q .recorder) r x j .is
-performed q (line.Request x r c) = request (q .settings) (observerAt q x) x r c .is
-performed q (line.Cut x r c k) = cut (q .settings) (observerAt q x) x r c k .is
-performed q (line.Check x r ts) = check (q .settings) (observerAt q x) x r ts .is
-performed q (line.Begin r) = begin (q .settings) (q .standby) r .is
-performed q (line.Poll r) = poll (q .settings) (q .standby) r .is
-performed q (line.Ack r x ts cnt status) = ack (q .settings) (q .standby) r x ts cnt status .is
+performed q (line.Recorder r step) = of-recorder (q .settings) (q .recorder) r step .is
+performed q (line.Observer x r step) = of-observer (q .settings) (observerAt (q .observers) x) x r step .is
+performed q (line.Standby r step) = of-standby (q .settings) (q .standby) r step .is
 performed q line.Bad = (Refused 9, refl)

@@ -1,3 +1,2 @@
 -- Document 01, "Program `rackrun`": what a step line does to the records.
 pub mod Session
-pub mod Outcome

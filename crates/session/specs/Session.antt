@@ -1,17 +1,25 @@
 -- The records of a rack, and each line's step on the record of its party. The steps are the parties' own definitions.
 use Prim.Native.Nat.{ℕ}
+use mathlib.Core.List.{List}
 use lib.ListN.{getD, set, replicate}
 use Rattle.settings.specs.declared.Settings.{Settings}
+use Rattle.settings.specs.Settings.{window}
 use Rattle.messages.specs.Answers.{refuses}
 use Rattle.messages.specs.Outcomes.{Outcome, _leaving_}
 use Rattle.recorder.specs.declared.Recorder.{Recorder}
-use Rattle.recorder.specs.Recorder.{tickOf, grantOf, driveOf, fresh as freshRecorder}
+use Rattle.recorder.specs.Recorder.{Event as RecorderEvent, tick, grant, drive, stepOf as recorderOf, fresh as freshRecorder}
 use Rattle.observer.specs.declared.Observer.{Observer}
-use Rattle.observer.specs.Observer.{requestOf, cutOf, checkOf, fresh as freshObserver}
+use Rattle.observer.specs.Observer.{Event as ObserverEvent, request, cut, check, stepOf as observerOf, fresh as freshObserver}
 use Rattle.standby.specs.declared.Standby.{Standby}
-use Rattle.standby.specs.Standby.{beginOf, ackOf, pollOf, fresh as freshStandby}
+use Rattle.standby.specs.Standby.{Event as StandbyEvent, begin, ack, poll, stepWithin, fresh as freshStandby}
 use Rattle.step_lines.specs.declared.StepLine.{StepLine}
-use Rattle.step_lines.specs.declared.StepLine.the-variants.{Tick, Drive, Grant, Request, Cut, Check, Begin, Poll, Ack, Bad}
+use Rattle.step_lines.specs.declared.StepLine.the-variants as line
+use Rattle.step_lines.specs.declared.RecorderStep.{RecorderStep}
+use Rattle.step_lines.specs.declared.RecorderStep.the-variants.{Tick, Drive, Grant}
+use Rattle.step_lines.specs.declared.ObserverStep.{ObserverStep}
+use Rattle.step_lines.specs.declared.ObserverStep.the-variants.{Request, Cut, Check}
+use Rattle.step_lines.specs.declared.StandbyStep.{StandbyStep}
+use Rattle.step_lines.specs.declared.StandbyStep.the-variants.{Begin, Poll, Ack}
 use Rattle.session.specs.declared.Session.{Session}
 
 -- "A run starts with every field of every record 0."
@@ -24,11 +32,30 @@ started s =
       standby = freshStandby;
     }
 
--- The record of observer x. There are 16; a number above 15 is refused whatever the record is, so a fresh one will do.
-abbrev pub observerAt : Session → (x : ℕ) → Observer
-observerAt q x = getD (q .observers) x freshObserver
+-- ---- What a line asks for, as the parties name it
 
--- What a party's step answers and leaves, in its session.
+abbrev pub ofRecorder : RecorderStep → RecorderEvent
+ofRecorder Tick = tick
+ofRecorder Drive = drive
+ofRecorder (Grant x j) = grant x j
+
+abbrev pub ofObserver : ObserverStep → ObserverEvent
+ofObserver (Request c) = request c
+ofObserver (Cut c k) = cut c k
+ofObserver (Check ts) = check ts
+
+abbrev pub ofStandby : StandbyStep → StandbyEvent
+ofStandby Begin = begin
+ofStandby Poll = poll
+ofStandby (Ack x ts cnt status) = ack x ts cnt status
+
+-- ---- Performing it
+
+-- The record of observer x. There are 16; a number above 15 is refused whatever the record is, so a fresh one will do.
+abbrev pub observerAt : List Observer → (x : ℕ) → Observer
+observerAt observers x = getD observers x freshObserver
+
+-- What a party's step answers and leaves, among the records.
 unfoldable pub withRecorder : Session → Outcome Recorder → Outcome Session
 withRecorder q o = o .answer leaving record { settings = q .settings; recorder = o .rec; observers = q .observers; standby = q .standby }
 
@@ -41,13 +68,7 @@ withStandby q o = o .answer leaving record { settings = q .settings; recorder = 
 
 -- A line's step. A line of no form gets 9.
 unfoldable pub performOf : Session → StepLine → Outcome Session
-performOf q (Tick r) = withRecorder q (tickOf (q .settings) (q .recorder) r)
-performOf q (Drive r) = withRecorder q (driveOf (q .settings) (q .recorder) r)
-performOf q (Grant r x j) = withRecorder q (grantOf (q .settings) (q .recorder) r x j)
-performOf q (Request x r c) = withObserver q x (requestOf (q .settings) (observerAt q x) x r c)
-performOf q (Cut x r c k) = withObserver q x (cutOf (q .settings) (observerAt q x) x r c k)
-performOf q (Check x r ts) = withObserver q x (checkOf (q .settings) (observerAt q x) x r ts)
-performOf q (Begin r) = withStandby q (beginOf (q .settings) (q .standby) r)
-performOf q (Poll r) = withStandby q (pollOf (q .settings) (q .standby) r)
-performOf q (Ack r x ts cnt status) = withStandby q (ackOf (q .settings) (q .standby) r x ts cnt status)
-performOf q Bad = refuses 9 leaving q
+performOf q (line.Recorder r step) = withRecorder q (recorderOf (q .settings) (q .recorder) r (ofRecorder step))
+performOf q (line.Observer x r step) = withObserver q x (observerOf (q .settings) (observerAt (q .observers) x) x r (ofObserver step))
+performOf q (line.Standby r step) = withStandby q (stepWithin (window (q .settings)) (q .settings) (q .standby) r (ofStandby step))
+performOf q line.Bad = refuses 9 leaving q

@@ -1,28 +1,25 @@
 // A rack between two lines of a step file: the settings and every party's record, and what a line's step does to them.
-// Serves document 01, "Program `rackrun`". The steps are the parties' own; here is only whose record they get.
-use messages::Answer;
+// Serves document 01, "Program `rackrun`". The steps are the parties' own; here is only whose record they get. A step takes and
+// gives the record of its party alone: to pass all of them through each line would cost more than the steps.
 use messages::Status;
 use observer::Observer;
-use observer::check;
-use observer::cut_request;
-use observer::request;
 use recorder::Recorder;
-use recorder::drive;
-use recorder::grant;
-use recorder::tick;
 use settings::Settings;
 use standby::Place;
 use standby::Standby;
-use standby::ack;
-use standby::begin;
-use standby::poll;
-use step_lines::StepLine;
+use step_lines::ObserverStep;
+use step_lines::RecorderStep;
+use step_lines::StandbyStep;
 ghost use mathlib.Core.Path.{_≡_};
+ghost use lib.ListN.{set};
+ghost use Rattle.recorder.specs.Recorder.{stepOf as recorderOf};
 ghost use Rattle.recorder.specs.Outcome.{outcome as recorderOutcome};
+ghost use Rattle.observer.specs.Observer.{stepOf as observerOf, fresh as freshObserver};
 ghost use Rattle.observer.specs.Outcome.{outcome as observerOutcome};
+ghost use Rattle.standby.specs.Standby.{stepWithin};
+ghost use Rattle.settings.specs.Settings.{window};
 ghost use Rattle.standby.specs.Outcome.{outcome as standbyOutcome};
-ghost use Rattle.session.specs.Session.{started, observerAt, withRecorder, withObserver, withStandby, performOf};
-ghost use Rattle.session.specs.Outcome.{outcome};
+ghost use Rattle.session.specs.Session.{started, observerAt, ofRecorder, ofObserver, ofStandby};
 
 pub struct Session {
     pub settings: Settings,
@@ -32,10 +29,14 @@ pub struct Session {
     pub standby: Standby,
 }
 
-// What a line's step answers, and the session it leaves.
-pub struct Performed {
-    pub answer: Answer,
-    pub session: Session,
+fn fresh_observer() -> Observer
+    ensures { λ r. ⌜ r ≡ freshObserver ⌝ }
+{
+    Observer {
+        latest: 0,
+        deadline: 0,
+        last_reading: 0,
+    }
 }
 
 // A run starts with every field of every record 0.
@@ -47,11 +48,7 @@ pub fn start(s: Settings) -> Session
         counter: 0,
         status: Status::Alive,
     };
-    let observer = Observer {
-        latest: 0,
-        deadline: 0,
-        last_reading: 0,
-    };
+    let observer = fresh_observer();
     Session {
         settings: s,
         recorder: Recorder {
@@ -73,100 +70,81 @@ pub fn start(s: Settings) -> Session
     }
 }
 
-// The record of observer x; no record has a number above 15, and one that is asked for is fresh.
-fn observer_at(session: Session, x: u64) -> Observer
-    ensures { λ r. ⌜ r ≡ observerAt session x ⌝ }
+pub fn recorder_step(
+    s: Settings,
+    rec: Recorder,
+    reading: u64,
+    step: RecorderStep,
+) -> recorder::Stepped
+    ensures { λ r. ⌜ recorderOutcome r ≡ recorderOf s rec reading (ofRecorder step) ⌝ }
+{
+    match step {
+        RecorderStep::Tick => recorder::tick(s, rec, reading),
+        RecorderStep::Drive => recorder::drive(s, rec, reading),
+        RecorderStep::Grant(x, number) => recorder::grant(s, rec, reading, x, number),
+    }
+}
+
+pub fn observer_step(
+    s: Settings,
+    o: Observer,
+    x: u64,
+    reading: u64,
+    step: ObserverStep,
+) -> observer::Stepped
+    ensures { λ r. ⌜ observerOutcome r ≡ observerOf s o x reading (ofObserver step) ⌝ }
+{
+    match step {
+        ObserverStep::Request(counter) => observer::request(s, o, x, reading, counter),
+        ObserverStep::Cut(counter, stores) => observer::cut_request(
+            s,
+            o,
+            x,
+            reading,
+            counter,
+            stores,
+        ),
+        ObserverStep::Check(ts) => observer::check(s, o, x, reading, ts),
+    }
+}
+
+pub fn standby_step(
+    s: Settings,
+    asking: Standby,
+    reading: u64,
+    step: StandbyStep,
+) -> standby::Stepped
+    ensures { λ r. ⌜ standbyOutcome r ≡ stepWithin (window s) s asking reading (ofStandby step) ⌝ }
+{
+    match step {
+        StandbyStep::Begin => standby::begin(s, asking, reading),
+        StandbyStep::Poll => standby::poll(s, asking, reading),
+        StandbyStep::Ack(x, ts, counter, status) => {
+            standby::ack(s, asking, reading, x, ts, counter, status)
+        }
+    }
+}
+
+// The record of observer x. No record has a number above 15: a step for one is refused, and is tried on a fresh one.
+pub fn observer_at(observers: [Observer; 16], x: u64) -> Observer
+    ensures { λ r. ⌜ r ≡ observerAt observers x ⌝ }
 {
     if x < 16 {
         let place = x as usize;
-        return session.observers[place];
+        return observers[place];
     }
-    Observer {
-        latest: 0,
-        deadline: 0,
-        last_reading: 0,
-    }
+    fresh_observer()
 }
 
-fn with_recorder(session: Session, stepped: recorder::Stepped) -> Performed
-    ensures { λ r. ⌜ outcome r ≡ withRecorder session (recorderOutcome stepped) ⌝ }
+// The records with that of observer x as it was left.
+pub fn with_observer(observers: [Observer; 16], x: u64, left: Observer) -> [Observer; 16]
+    ensures { λ r. ⌜ r ≡ set observers x left ⌝ }
 {
-    let answer = stepped.answer;
-    let rec = stepped.rec;
-    let mut next = session;
-    next.recorder = rec;
-    Performed {
-        answer: answer,
-        session: next,
-    }
-}
-
-fn with_observer(session: Session, x: u64, stepped: observer::Stepped) -> Performed
-    ensures { λ r. ⌜ outcome r ≡ withObserver session x (observerOutcome stepped) ⌝ }
-{
-    let answer = stepped.answer;
     if 16 <= x {
-        return Performed {
-            answer: answer,
-            session: session,
-        };
+        return observers;
     }
-    let rec = stepped.rec;
     let place = x as usize;
-    let mut next = session;
-    next.observers[place] = rec;
-    Performed {
-        answer: answer,
-        session: next,
-    }
-}
-
-fn with_standby(session: Session, stepped: standby::Stepped) -> Performed
-    ensures { λ r. ⌜ outcome r ≡ withStandby session (standbyOutcome stepped) ⌝ }
-{
-    let answer = stepped.answer;
-    let rec = stepped.rec;
-    let mut next = session;
-    next.standby = rec;
-    Performed {
-        answer: answer,
-        session: next,
-    }
-}
-
-// The step that a line asks for, on the record of its party.
-pub fn perform(session: Session, line: StepLine) -> Performed
-    ensures { λ r. ⌜ outcome r ≡ performOf session line ⌝ }
-{
-    let s = session.settings;
-    let rec = session.recorder;
-    let asking = session.standby;
-    match line {
-        StepLine::Tick(reading) => with_recorder(session, tick(s, rec, reading)),
-        StepLine::Drive(reading) => with_recorder(session, drive(s, rec, reading)),
-        StepLine::Grant(reading, x, number) => {
-            with_recorder(session, grant(s, rec, reading, x, number))
-        }
-        StepLine::Request(x, reading, counter) => {
-            let o = observer_at(session, x);
-            with_observer(session, x, request(s, o, x, reading, counter))
-        }
-        StepLine::Cut(x, reading, counter, stores) => {
-            let o = observer_at(session, x);
-            with_observer(session, x, cut_request(s, o, x, reading, counter, stores))
-        }
-        StepLine::Check(x, reading, ts) => {
-            let o = observer_at(session, x);
-            with_observer(session, x, check(s, o, x, reading, ts))
-        }
-        StepLine::Begin(reading) => with_standby(session, begin(s, asking, reading)),
-        StepLine::Poll(reading) => with_standby(session, poll(s, asking, reading)),
-        StepLine::Ack(reading, x, ts, counter, status) => {
-            with_standby(session, ack(s, asking, reading, x, ts, counter, status))
-        }
-        StepLine::Bad => Performed {
-            answer: Answer::Refused(9),
-            session: session,
-        },
-    }
+    let mut next = observers;
+    next[place] = left;
+    next
 }

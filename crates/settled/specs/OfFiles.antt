@@ -5,7 +5,11 @@ use Rattle.step_lines.proofs.read_step_line as read-step-line
 use Rattle.answer_lines.proofs.write_answer as write-answer
 use Rattle.answer_lines.proofs.write_settings_answer as write-settings-answer
 use Rattle.session.proofs.start as start
-use Rattle.session.proofs.perform as perform
+use Rattle.session.proofs.observer_at as observer-at
+use Rattle.session.proofs.with_observer as with-observer
+use Rattle.session.proofs.recorder_step as recorder-step
+use Rattle.session.proofs.observer_step as observer-step
+use Rattle.session.proofs.standby_step as standby-step
 use Rattle.stepfile.proofs.answer_file as answer-file
 
 pub record FilesSettled : Type 0 where
@@ -14,5 +18,9 @@ pub record FilesSettled : Type 0 where
   pub «write_answer» : Settled write-answer.Kinds.ps write-answer.Kinds.r write-answer.Reads.Post
   pub «write_settings_answer» : Settled write-settings-answer.Kinds.ps write-settings-answer.Kinds.r write-settings-answer.Reads.Post
   pub start : Settled start.Kinds.ps start.Kinds.r start.Reads.Post
-  pub perform : Settled perform.Kinds.ps perform.Kinds.r perform.Reads.Post
+  pub «observer_at» : Settled observer-at.Kinds.ps observer-at.Kinds.r observer-at.Reads.Post
+  pub «with_observer» : Settled with-observer.Kinds.ps with-observer.Kinds.r with-observer.Reads.Post
+  pub «recorder_step» : Settled recorder-step.Kinds.ps recorder-step.Kinds.r recorder-step.Reads.Post
+  pub «observer_step» : Settled observer-step.Kinds.ps observer-step.Kinds.r observer-step.Reads.Post
+  pub «standby_step» : Settled standby-step.Kinds.ps standby-step.Kinds.r standby-step.Reads.Post
   pub «answer_file» : Settled answer-file.Kinds.ps answer-file.Kinds.r answer-file.Reads.Post

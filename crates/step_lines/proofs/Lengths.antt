@@ -18,7 +18,7 @@ use Rattle.fields.proofs.Reading.{read-digits}
 use Rattle.fields.proofs.Rooms.{front}
 use Rattle.step_lines.specs.declared.Row.{Row}
 use Rattle.step_lines.specs.declared.StepLine.{StepLine}
-use Rattle.step_lines.specs.declared.StepLine.the-variants.{Tick, Drive, Grant, Request, Cut, Check, Begin, Poll, Ack, Bad}
+use Rattle.step_lines.specs.declared.StepLine.the-variants.{Recorder, Observer, Standby, Bad}
 use Rattle.step_lines.specs.declared.SettingsLine.{SettingsLine}
 use Rattle.step_lines.specs.declared.SettingsLine.the-variants.{Given, Bad as NoSettings}
 use Rattle.step_lines.specs.Rows.{greatestNumber, withNumber, extended, row}
@@ -67,27 +67,15 @@ row-long s (suc count) =
 -- how long a line is at least that is read so
 abbrev pub needed : StepLine → ℕ
 needed Bad = 0
-needed (Tick r) = 9
-needed (Drive r) = 9
-needed (Grant r x j) = 9
-needed (Request x r c) = 9
-needed (Cut x r c k) = 9
-needed (Check x r ts) = 9
-needed (Begin r) = 9
-needed (Poll r) = 9
-needed (Ack r x ts cnt status) = 9
+needed (Recorder r step) = 9
+needed (Observer x r step) = 9
+needed (Standby r step) = 9
 
 needed-most : (line : StepLine) → needed line ≤ 9
 needed-most Bad = omega arith
-needed-most (Tick r) = omega arith
-needed-most (Drive r) = omega arith
-needed-most (Grant r x j) = omega arith
-needed-most (Request x r c) = omega arith
-needed-most (Cut x r c k) = omega arith
-needed-most (Check x r ts) = omega arith
-needed-most (Begin r) = omega arith
-needed-most (Poll r) = omega arith
-needed-most (Ack r x ts cnt status) = omega arith
+needed-most (Recorder r step) = omega arith
+needed-most (Observer x r step) = omega arith
+needed-most (Standby r step) = omega arith
 
 -- one of several words: each is long enough by itself, and else the line is bad
 exactly : (count : ℕ) (word s : List ℕ) (line other : StepLine) → 9 ≤ count + length word → (needed other ≤ count + length s)

@@ -11,7 +11,10 @@ use Rattle.settings.specs.declared.Settings.{Settings}
 use Rattle.settings.specs.Settings.{settings}
 use Rattle.step_lines.specs.declared.Row.{Row}
 use Rattle.step_lines.specs.declared.StepLine.{StepLine}
-use Rattle.step_lines.specs.declared.StepLine.the-variants.{Tick, Drive, Grant, Request, Cut, Check, Begin, Poll, Ack, Bad}
+use Rattle.step_lines.specs.declared.StepLine.the-variants.{Recorder, Observer, Standby, Bad}
+use Rattle.step_lines.specs.declared.RecorderStep.the-variants.{Tick, Drive, Grant}
+use Rattle.step_lines.specs.declared.ObserverStep.the-variants.{Request, Cut, Check}
+use Rattle.step_lines.specs.declared.StandbyStep.the-variants.{Begin, Poll, Ack}
 use Rattle.step_lines.specs.declared.SettingsLine.{SettingsLine}
 use Rattle.step_lines.specs.declared.SettingsLine.the-variants.{Given, Bad as NoSettings}
 use Rattle.step_lines.specs.Rows.{row}
@@ -40,12 +43,12 @@ settingsLine s = if begins (text "SETTINGS") s then settingsNumbers (drop 8 s) (
 
 -- `R r tick`, `R r drive`, `R r grant x j`, from behind the R; a part's row stands before what it belongs to
 unfoldable pub grantNumbers : (r : ℕ) → List ℕ → Row → StepLine
-grantNumbers r s v = if closedBy (text "\n") s v then Grant r (at v 0) (at v 1) else Bad
+grantNumbers r s v = if closedBy (text "\n") s v then Recorder r (Grant (at v 0) (at v 1)) else Bad
 
 unfoldable pub recorderEvent : (r : ℕ) → List ℕ → StepLine
 recorderEvent r s =
-    if isExactly (text "\ttick\n") s then Tick r
-    else if isExactly (text "\tdrive\n") s then Drive r
+    if isExactly (text "\ttick\n") s then Recorder r Tick
+    else if isExactly (text "\tdrive\n") s then Recorder r Drive
     else if begins (text "\tgrant") s then grantNumbers r (drop 6 s) (row (drop 6 s) 2)
     else Bad
 
@@ -54,11 +57,11 @@ recorderNumbers s v = if v .good then recorderEvent (at v 0) (behindRow s v) els
 
 -- `O x r request c`, `O x r request c cut k`, `O x r check ts`, from behind the O
 unfoldable pub cutNumbers : (x r c : ℕ) → List ℕ → Row → StepLine
-cutNumbers x r c s v = if closedBy (text "\n") s v then Cut x r c (at v 0) else Bad
+cutNumbers x r c s v = if closedBy (text "\n") s v then Observer x r (Cut c (at v 0)) else Bad
 
 unfoldable pub requestEnd : (x r c : ℕ) → List ℕ → StepLine
 requestEnd x r c s =
-    if isExactly (text "\n") s then Request x r c
+    if isExactly (text "\n") s then Observer x r (Request c)
     else if begins (text "\tcut") s then cutNumbers x r c (drop 4 s) (row (drop 4 s) 1)
     else Bad
 
@@ -66,7 +69,7 @@ unfoldable pub requestNumbers : (x r : ℕ) → List ℕ → Row → StepLine
 requestNumbers x r s v = if v .good then requestEnd x r (at v 0) (behindRow s v) else Bad
 
 unfoldable pub checkNumbers : (x r : ℕ) → List ℕ → Row → StepLine
-checkNumbers x r s v = if closedBy (text "\n") s v then Check x r (at v 0) else Bad
+checkNumbers x r s v = if closedBy (text "\n") s v then Observer x r (Check (at v 0)) else Bad
 
 unfoldable pub observerEvent : (x r : ℕ) → List ℕ → StepLine
 observerEvent x r s =
@@ -80,14 +83,14 @@ observerNumbers s v = if v .good then observerEvent (at v 0) (at v 1) (behindRow
 -- `Q r begin`, `Q r poll`, `Q r ack x ts cnt Alive` (or `Dead`), from behind the Q
 unfoldable pub ackNumbers : (r : ℕ) → List ℕ → Row → StepLine
 ackNumbers r s v =
-    if closedBy (text "\tAlive\n") s v then Ack r (at v 0) (at v 1) (at v 2) Alive
-    else if closedBy (text "\tDead\n") s v then Ack r (at v 0) (at v 1) (at v 2) Dead
+    if closedBy (text "\tAlive\n") s v then Standby r (Ack (at v 0) (at v 1) (at v 2) Alive)
+    else if closedBy (text "\tDead\n") s v then Standby r (Ack (at v 0) (at v 1) (at v 2) Dead)
     else Bad
 
 unfoldable pub standbyEvent : (r : ℕ) → List ℕ → StepLine
 standbyEvent r s =
-    if isExactly (text "\tbegin\n") s then Begin r
-    else if isExactly (text "\tpoll\n") s then Poll r
+    if isExactly (text "\tbegin\n") s then Standby r Begin
+    else if isExactly (text "\tpoll\n") s then Standby r Poll
     else if begins (text "\tack") s then ackNumbers r (drop 4 s) (row (drop 4 s) 3)
     else Bad
 

@@ -13,18 +13,31 @@ ghost use Prim.Native.Nat.{_<_, _≤_};
 ghost use Rattle.step_lines.specs.Rows.{extended, row};
 ghost use Rattle.step_lines.specs.Reading.{closedBy, settingsNumbers, settingsLine, grantNumbers, recorderEvent, recorderNumbers, cutNumbers, requestEnd, requestNumbers, checkNumbers, observerEvent, observerNumbers, ackNumbers, standbyEvent, standbyNumbers, stepLine};
 
-// What a step line asks for, its numbers in the line's order.
+// What a step line asks for: whose step it is, with the party's reading, and an observer's number before that.
 pub enum StepLine {
-    Tick(u64),
-    Drive(u64),
-    Grant(u64, u64, u64),
-    Request(u64, u64, u64),
-    Cut(u64, u64, u64, u64),
-    Check(u64, u64, u64),
-    Begin(u64),
-    Poll(u64),
-    Ack(u64, u64, u64, u64, Status),
+    Recorder(u64, RecorderStep),
+    Observer(u64, u64, ObserverStep),
+    Standby(u64, StandbyStep),
     Bad,
+}
+
+// The steps, their numbers in the line's order.
+pub enum RecorderStep {
+    Tick,
+    Drive,
+    Grant(u64, u64),
+}
+
+pub enum ObserverStep {
+    Request(u64),
+    Cut(u64, u64),
+    Check(u64),
+}
+
+pub enum StandbyStep {
+    Begin,
+    Poll,
+    Ack(u64, u64, u64, Status),
 }
 
 // What a first line gives: the settings, or nothing.
@@ -124,7 +137,7 @@ fn grant_numbers(reading: u64, s: &[u8]) -> StepLine
 {
     let row = row_of(s, 2);
     if is_closed_by(b"\n", s, row) {
-        StepLine::Grant(reading, row.numbers[0], row.numbers[1])
+        StepLine::Recorder(reading, RecorderStep::Grant(row.numbers[0], row.numbers[1]))
     } else {
         StepLine::Bad
     }
@@ -134,10 +147,10 @@ fn recorder_event(reading: u64, s: &[u8]) -> StepLine
     ensures { λ r. ⌜ r ≡ recorderEvent reading (now (s .entry)) ⌝ }
 {
     if is_exactly(s, b"\ttick\n") {
-        return StepLine::Tick(reading);
+        return StepLine::Recorder(reading, RecorderStep::Tick);
     }
     if is_exactly(s, b"\tdrive\n") {
-        return StepLine::Drive(reading);
+        return StepLine::Recorder(reading, RecorderStep::Drive);
     }
     if starts(s, b"\tgrant") {
         return grant_numbers(reading, part_from(s, 6));
@@ -161,7 +174,7 @@ fn cut_numbers(x: u64, reading: u64, counter: u64, s: &[u8]) -> StepLine
 {
     let row = row_of(s, 1);
     if is_closed_by(b"\n", s, row) {
-        StepLine::Cut(x, reading, counter, row.numbers[0])
+        StepLine::Observer(x, reading, ObserverStep::Cut(counter, row.numbers[0]))
     } else {
         StepLine::Bad
     }
@@ -171,7 +184,7 @@ fn request_end(x: u64, reading: u64, counter: u64, s: &[u8]) -> StepLine
     ensures { λ r. ⌜ r ≡ requestEnd x reading counter (now (s .entry)) ⌝ }
 {
     if is_exactly(s, b"\n") {
-        return StepLine::Request(x, reading, counter);
+        return StepLine::Observer(x, reading, ObserverStep::Request(counter));
     }
     if starts(s, b"\tcut") {
         return cut_numbers(x, reading, counter, part_from(s, 4));
@@ -195,7 +208,7 @@ fn check_numbers(x: u64, reading: u64, s: &[u8]) -> StepLine
 {
     let row = row_of(s, 1);
     if is_closed_by(b"\n", s, row) {
-        StepLine::Check(x, reading, row.numbers[0])
+        StepLine::Observer(x, reading, ObserverStep::Check(row.numbers[0]))
     } else {
         StepLine::Bad
     }
@@ -232,10 +245,10 @@ fn ack_numbers(reading: u64, s: &[u8]) -> StepLine
     let ts = row.numbers[1];
     let counter = row.numbers[2];
     if is_closed_by(b"\tAlive\n", s, row) {
-        return StepLine::Ack(reading, x, ts, counter, Status::Alive);
+        return StepLine::Standby(reading, StandbyStep::Ack(x, ts, counter, Status::Alive));
     }
     if is_closed_by(b"\tDead\n", s, row) {
-        return StepLine::Ack(reading, x, ts, counter, Status::Dead);
+        return StepLine::Standby(reading, StandbyStep::Ack(x, ts, counter, Status::Dead));
     }
     StepLine::Bad
 }
@@ -244,10 +257,10 @@ fn standby_event(reading: u64, s: &[u8]) -> StepLine
     ensures { λ r. ⌜ r ≡ standbyEvent reading (now (s .entry)) ⌝ }
 {
     if is_exactly(s, b"\tbegin\n") {
-        return StepLine::Begin(reading);
+        return StepLine::Standby(reading, StandbyStep::Begin);
     }
     if is_exactly(s, b"\tpoll\n") {
-        return StepLine::Poll(reading);
+        return StepLine::Standby(reading, StandbyStep::Poll);
     }
     if starts(s, b"\tack") {
         return ack_numbers(reading, part_from(s, 4));

@@ -12,8 +12,12 @@ use Rattle.fields.specs.Places.{putAt}
 use Rattle.fields.proofs.Rooms.{length-put, put-nothing, put-more}
 use Rattle.messages.specs.Answers.{Spoken}
 use Rattle.messages.specs.Outcomes.{Outcome}
+use Rattle.settings.specs.declared.Settings.{Settings}
+use Rattle.recorder.specs.declared.Recorder as Recorder
+use Rattle.observer.specs.declared.Observer as Observer
+use Rattle.standby.specs.declared.Standby as Standby
 use Rattle.step_lines.specs.declared.StepLine.{StepLine}
-use Rattle.step_lines.specs.declared.StepLine.the-variants.{Tick, Drive, Grant, Request, Cut, Check, Begin, Poll, Ack, Bad}
+use Rattle.step_lines.specs.declared.StepLine.the-variants.{Recorder, Observer, Standby, Bad}
 use Rattle.step_lines.specs.Reading.{stepLine}
 use Rattle.step_lines.proofs.Lengths.{needed, step-line-length}
 use Rattle.answer_lines.specs.Answers.{answerLine}
@@ -39,15 +43,9 @@ answer-short q line some = by (stepLine line) (step-line-length line)
   where
     by : (l : StepLine) → needed l ≤ length line → length (answerLine (performOf q l .answer)) ≤ 7 * length line
     by Bad h = bad q (length line) some
-    by (Tick r) h = long _ _ (performed q (Tick r)) h
-    by (Drive r) h = long _ _ (performed q (Drive r)) h
-    by (Grant r x j) h = long _ _ (performed q (Grant r x j)) h
-    by (Request x r c) h = long _ _ (performed q (Request x r c)) h
-    by (Cut x r c k) h = long _ _ (performed q (Cut x r c k)) h
-    by (Check x r ts) h = long _ _ (performed q (Check x r ts)) h
-    by (Begin r) h = long _ _ (performed q (Begin r)) h
-    by (Poll r) h = long _ _ (performed q (Poll r)) h
-    by (Ack r x ts cnt status) h = long _ _ (performed q (Ack r x ts cnt status)) h
+    by (Recorder r step) h = long _ _ (performed q (Recorder r step)) h
+    by (Observer x r step) h = long _ _ (performed q (Observer x r step)) h
+    by (Standby r step) h = long _ _ (performed q (Standby r step)) h
 
 -- all answers together
 no-lines : linesOf [] ≡ []
@@ -80,6 +78,10 @@ pub answers-short : (q : Session) (s : List ℕ) → length (answersTo q (linesO
 answers-short q s = within (length s) q s (le-refl (length s))
 
 -- ---- the loop
+
+-- the session that the loop's variables make
+abbrev pub sessionOf : Settings → Recorder.Recorder → List Observer.Observer → Standby.Standby → Session
+sessionOf s rec observers asking = record { settings = s; recorder = rec; observers = observers; standby = asking }
 
 pub record Gone (input : List ℕ) (first : ℕ) (out₀ : List ℕ) (begin : ℕ) (session₀ : Session) (out : List ℕ) (session : Session) (from at : ℕ) : Type 0 where
   pub done : List ℕ

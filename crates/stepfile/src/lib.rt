@@ -5,11 +5,16 @@ use answer_lines::write_settings_answer;
 use fields::part_from;
 use lines::LineWritten;
 use messages::Answer;
-use session::perform;
+use session::observer_at;
+use session::observer_step;
+use session::recorder_step;
+use session::standby_step;
 use session::start;
+use session::with_observer;
 use settings::Settings;
 use settings::refusal;
 use step_lines::SettingsLine;
+use step_lines::StepLine;
 use step_lines::read_settings_line;
 use step_lines::read_step_line;
 ghost use mathlib.Core.Path.{_≡_};
@@ -67,21 +72,42 @@ fn length_of(written: LineWritten) -> usize
     }
 }
 
-// Answers the step lines from `first` on, writing from `begin` on, and gives the place behind the answers.
+// Answers the step lines from `first` on, writing from `begin` on, and gives the place behind the answers. The session's
+// records are variables here, so that a line moves the record of its own party alone.
 fn answer_steps(input: &[u8], first: usize, s: Settings, out: &mut [u8], begin: usize) -> usize
     requires { ⌜ (first ≤ length (now input)) × (length (now input) ≤ 65536) × (begin + 7 * (length (now input) - first) ≤ length (now out)) ⌝ }
     ensures { λ r. ⌜ (r ≡ begin + length (answersTo (started s) (linesOf (drop first (now (input .entry)))))) × (now (out .exit) ≡ putAt (now (out .entry)) begin (answersTo (started s) (linesOf (drop first (now (input .entry)))))) ⌝ }
 {
-    let mut session = start(s);
+    let begun = start(s);
+    let mut rec = begun.recorder;
+    let mut observers = begun.observers;
+    let mut asking = begun.standby;
     let mut from = first;
     let mut at = begin;
     while from < input.len() {
         let rest = part_from(input, from);
         let count = line_length(rest);
-        let performed = perform(session, read_step_line(front_of(rest, count)));
-        let answer = performed.answer;
-        let next = performed.session;
-        session = next;
+        let line = read_step_line(front_of(rest, count));
+        let mut answer = Answer::Refused(9);
+        match line {
+            StepLine::Recorder(reading, step) => {
+                let done = recorder_step(s, rec, reading, step);
+                answer = done.answer;
+                rec = done.rec;
+            }
+            StepLine::Observer(x, reading, step) => {
+                let done = observer_step(s, observer_at(observers, x), x, reading, step);
+                answer = done.answer;
+                let placed = with_observer(observers, x, done.rec);
+                observers = placed;
+            }
+            StepLine::Standby(reading, step) => {
+                let done = standby_step(s, asking, reading, step);
+                answer = done.answer;
+                asking = done.rec;
+            }
+            StepLine::Bad => {}
+        }
         at += length_of(write_answer(answer, &mut out[at..]));
         from += count;
     }

@@ -1,26 +1,22 @@
--- One observer's record is the step's, if there is a place for it. Assumes nothing.
+-- Past the 16 places nothing is put. Assumes nothing.
 use native.Mathlib.Omega.{arith}
-use mathlib.Core.Path.{refl}
+use mathlib.Core.Path.{sym}
 use lib.Seq.{set-out}
-use Rattle.session.specs.Session.{withObserver}
-use Rattle.session.proofs.Sized.{sized}
 use borrow.Author.Needs.{needs}
 use Rattle.session.proofs.with_observer.Statement.{statement}
 use Rattle.session.proofs.with_observer.Tie as tie
 
 returns : tie.Need-returns
-unfolding withObserver
-returns c = rw (set-out (c .before .args .session .observers) (c .before .args .x) (c .before .args .stepped .rec) (omega (arith, sized (c .before .args .session) _ (c .before .good .0), c .if1 .taken))) refl
+returns c = sym (set-out (c .before .args .observers) (c .before .args .x) (c .before .args .left) (omega (arith, c .if1 .taken)))
 
-mul-rec : tie.Need-mul-rec
-mul-rec c = search needs
+mul-next : tie.Need-mul-next
+mul-next c = search needs
 
-element-set-from-rec : tie.Need-element-set-from-rec
-element-set-from-rec c = search needs
+array-set-from-next : tie.Need-array-set-from-next
+array-set-from-next c = search needs
 
 returns-2 : tie.Need-returns-2
-unfolding withObserver
-returns-2 c = refl
+returns-2 c = search needs
 
 pub with-observer-spec : {M : Type 1} → statement M
-with-observer-spec = tie.close (tie.spec returns mul-rec element-set-from-rec returns-2)
+with-observer-spec = tie.close (tie.spec returns mul-next array-set-from-next returns-2)

@@ -1,18 +1,10 @@
 -- The claims on step files: each contract gives its outcome outright, or by what the answer says. Assumes nothing.
-use mathlib.Core.Path.{_≡_, refl, sym, ap, _∙_}
-use Rattle.messages.proofs.Apart.{said-apart}
-use Rattle.messages.specs.Outcomes.{Outcome}
+use mathlib.Core.Path.{refl, sym, ap, _∙_}
 use Rattle.lines.proofs.Lines.{written-apart}
-use Rattle.session.specs.declared.Session.{Session}
-use Rattle.session.specs.declared.Performed.{Performed}
-use Rattle.session.specs.Outcome.{outcome}
+use Rattle.settled.proofs.Apart.{recorder-apart, observer-apart, standby-apart}
 use Rattle.stepfile.proofs.Files.{answered-apart}
 use Rattle.settled.proofs.files_settled.Statement.{statement}
 use Rattle.settled.proofs.files_settled.Tie as tie
-
--- what says the same and leaves the same session is the same
-apart : {x y : Performed} → outcome x ≡ outcome y → x ≡ y
-apart e = λ i. record { answer = said-apart (ap (λ (o : Outcome Session). o .answer) e) i; session = e i .rec }
 
 returns : tie.Need-returns
 returns c = record {
@@ -21,7 +13,11 @@ returns c = record {
   «write_answer» = λ _ _ _ _ _ _ p q. (written-apart (p .0 ∙ sym (q .0)), ap (λ out. (tt, (out, tt))) (p .1 ∙ sym (q .1)));
   «write_settings_answer» = λ _ _ _ _ _ _ p q. (written-apart (p .0 ∙ sym (q .0)), ap (λ out. (tt, (out, tt))) (p .1 ∙ sym (q .1)));
   start = λ _ _ _ _ _ _ p q. (p ∙ sym q, refl);
-  perform = λ _ _ _ _ _ _ p q. (apart (p ∙ sym q), refl);
+  «observer_at» = λ _ _ _ _ _ _ p q. (p ∙ sym q, refl);
+  «with_observer» = λ _ _ _ _ _ _ p q. (p ∙ sym q, refl);
+  «recorder_step» = λ _ _ _ _ _ _ p q. (recorder-apart (p ∙ sym q), refl);
+  «observer_step» = λ _ _ _ _ _ _ p q. (observer-apart (p ∙ sym q), refl);
+  «standby_step» = λ _ _ _ _ _ _ p q. (standby-apart (p ∙ sym q), refl);
   «answer_file» = λ _ _ _ _ _ _ p q. (answered-apart (p .0 ∙ sym (q .0)), ap (λ out. (tt, (out, tt))) (p .1 ∙ sym (q .1)));
 }
 

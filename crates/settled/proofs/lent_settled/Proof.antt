@@ -5,25 +5,21 @@ use Rattle.messages.specs.Answers.{said}
 use Rattle.messages.specs.Outcomes.{Outcome, _leaving_}
 use Rattle.messages.proofs.Apart.{said-apart}
 use Rattle.observer.specs.declared.Observer.{Observer}
-use Rattle.observer.specs.declared.Stepped.{Stepped}
-use Rattle.observer.specs.Outcome.{outcome}
+use Rattle.settled.proofs.Apart.{observer-apart}
 use Rattle.settled.proofs.lent_settled.Statement.{statement}
 use Rattle.settled.proofs.lent_settled.Tie as tie
 
 both : {a b : Answer} {x y : Observer} → (said a leaving x) ≡ (said b leaving y) → (a ≡ b) × (x ≡ y)
 both e = (said-apart (ap (λ (o : Outcome Observer). o .answer) e), ap (λ (o : Outcome Observer). o .rec) e)
 
-apart : {x y : Stepped} → outcome x ≡ outcome y → x ≡ y
-apart e = let b = both e in λ i. record { answer = b .0 i; rec = b .1 i }
-
 returns : tie.Need-returns
 returns c = record {
   «request_lent» = λ _ _ _ _ _ _ _ _ _ p q. both (p ∙ sym q);
   «cut_lent» = λ _ _ _ _ _ _ _ _ _ _ p q. both (p ∙ sym q);
   «check_lent» = λ _ _ _ _ _ _ _ _ _ p q. both (p ∙ sym q);
-  «lend_to_request» = λ _ _ _ _ _ _ p q. (apart (p ∙ sym q), refl);
-  «lend_to_cut» = λ _ _ _ _ _ _ p q. (apart (p ∙ sym q), refl);
-  «lend_to_check» = λ _ _ _ _ _ _ p q. (apart (p ∙ sym q), refl);
+  «lend_to_request» = λ _ _ _ _ _ _ p q. (observer-apart (p ∙ sym q), refl);
+  «lend_to_cut» = λ _ _ _ _ _ _ p q. (observer-apart (p ∙ sym q), refl);
+  «lend_to_check» = λ _ _ _ _ _ _ p q. (observer-apart (p ∙ sym q), refl);
 }
 
 pub lent-settled-spec : {M : Type 1} → statement M

@@ -1,0 +1,2 @@
+-- What all claims of determinacy rest on.
+pub mod Apart
