@@ -57,18 +57,18 @@ observerAt observers x = getD observers x freshObserver
 
 -- What a party's step answers and leaves, among the records.
 unfoldable pub withRecorder : Session → Outcome Recorder → Outcome Session
-withRecorder q o = o .answer leaving record { settings = q .settings; recorder = o .rec; observers = q .observers; standby = q .standby }
+withRecorder session o = o .answer leaving record { settings = session .settings; recorder = o .rec; observers = session .observers; standby = session .standby }
 
 unfoldable pub withObserver : Session → (x : ℕ) → Outcome Observer → Outcome Session
-withObserver q x o =
-    o .answer leaving record { settings = q .settings; recorder = q .recorder; observers = set (q .observers) x (o .rec); standby = q .standby }
+withObserver session x o =
+    o .answer leaving record { settings = session .settings; recorder = session .recorder; observers = set (session .observers) x (o .rec); standby = session .standby }
 
 unfoldable pub withStandby : Session → Outcome Standby → Outcome Session
-withStandby q o = o .answer leaving record { settings = q .settings; recorder = q .recorder; observers = q .observers; standby = o .rec }
+withStandby session o = o .answer leaving record { settings = session .settings; recorder = session .recorder; observers = session .observers; standby = o .rec }
 
 -- A line's step. A line of no form gets 9.
 unfoldable pub performOf : Session → StepLine → Outcome Session
-performOf q (line.Recorder r step) = withRecorder q (recorderOf (q .settings) (q .recorder) r (ofRecorder step))
-performOf q (line.Observer x r step) = withObserver q x (observerOf (q .settings) (observerAt (q .observers) x) x r (ofObserver step))
-performOf q (line.Standby r step) = withStandby q (stepWithin (window (q .settings)) (q .settings) (q .standby) r (ofStandby step))
-performOf q line.Bad = refuses 9 leaving q
+performOf session (line.Recorder r step) = withRecorder session (recorderOf (session .settings) (session .recorder) r (ofRecorder step))
+performOf session (line.Observer x r step) = withObserver session x (observerOf (session .settings) (observerAt (session .observers) x) x r (ofObserver step))
+performOf session (line.Standby r step) = withStandby session (stepWithin (window (session .settings)) (session .settings) (session .standby) r (ofStandby step))
+performOf session line.Bad = refuses 9 leaving session

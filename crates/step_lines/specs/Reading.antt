@@ -21,27 +21,28 @@ use Rattle.step_lines.specs.Rows.{row}
 
 -- the k-th number of a row
 abbrev pub at : Row → ℕ → ℕ
-at r k = getD (r .numbers) k 0
+at v k = getD (v .numbers) k 0
 
 -- what the line holds behind a row at its front
 abbrev pub behindRow : List ℕ → Row → List ℕ
-behindRow s r = drop (r .behind) s
+behindRow s v = drop (v .behind) s
 
 -- the row stands there, and behind it the end of the line
 unfoldable pub closedBy : List ℕ → List ℕ → Row → Bool
-closedBy end s r = r .good && isExactly end (behindRow s r)
+closedBy end s v = v .good && isExactly end (behindRow s v)
 
 -- `SETTINGS` with the seven numbers
 abbrev pub settingsOf : Row → Settings
-settingsOf r = settings (at r 0) (at r 1) (at r 2) (at r 3) (at r 4) (at r 5) (at r 6)
+settingsOf v = settings (at v 0) (at v 1) (at v 2) (at v 3) (at v 4) (at v 5) (at v 6)
 
 unfoldable pub settingsNumbers : List ℕ → Row → SettingsLine
-settingsNumbers s r = if closedBy (text "\n") s r then Given (settingsOf r) else NoSettings
+settingsNumbers s v = if closedBy (text "\n") s v then Given (settingsOf v) else NoSettings
 
 unfoldable pub settingsLine : List ℕ → SettingsLine
 settingsLine s = if begins (text "SETTINGS") s then settingsNumbers (drop 8 s) (row (drop 8 s) 7) else NoSettings
 
--- `R r tick`, `R r drive`, `R r grant x j`, from behind the R; a part's row stands before what it belongs to
+-- `R r tick`, `R r drive`, `R r grant x j`, from behind the R. Here v is a row of numbers and r a reading;
+-- what stands behind a part is defined before it.
 unfoldable pub grantNumbers : (r : ℕ) → List ℕ → Row → StepLine
 grantNumbers r s v = if closedBy (text "\n") s v then Recorder r (Grant (at v 0) (at v 1)) else Bad
 

@@ -35,5 +35,5 @@ answeredLines input = if mostBytes <? length input then 1 else answeredOf (lines
 
 -- Each line gets exactly one line, until the run ends.
 pub record OneLineEach : Type 0 where
-  pub in-a-run : (q : Session) (lines : List (List ℕ)) → length (linesOf (answersTo q lines)) ≡ length lines
+  pub in-a-run : (session : Session) (lines : List (List ℕ)) → length (linesOf (answersTo session lines)) ≡ length lines
   pub in-a-file : (input : List ℕ) → length (linesOf (answers input)) ≡ answeredLines input

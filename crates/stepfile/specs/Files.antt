@@ -20,9 +20,9 @@ use Rattle.stepfile.specs.Lines.{linesOf}
 -- "Each line gets one line": a step's answer, and the records carried on to the next line. A later SETTINGS line is no step
 -- line, and neither is a last one without line feed: both get 9.
 unfoldable pub answersTo : Session → List (List ℕ) → List ℕ
-answersTo q [] = []
-answersTo q (line ∷ lines) =
-    answerLine (performOf q (stepLine line) .answer) ++ answersTo (performOf q (stepLine line) .rec) lines
+answersTo session [] = []
+answersTo session (line ∷ lines) =
+    answerLine (performOf session (stepLine line) .answer) ++ answersTo (performOf session (stepLine line) .rec) lines
 
 -- "refused settings, or a first line that is no good SETTINGS line (9), end the run"
 unfoldable pub afterSettings : SettingsLine → List (List ℕ) → List ℕ

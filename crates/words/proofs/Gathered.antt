@@ -8,11 +8,11 @@ use mathlib.Core.Bool.{Bool, true, false, _&&_, and-assoc, and-true}
 use mathlib.Core.List.{List, [], _∷_, _++_, map, append-assoc}
 use lib.ListN.{length, take, getD, set, replicate, length-map}
 use lib.Seq.{take-suc, set-at, length-take-le}
-use borrow.Author.Tests.{ltb-true, eq-eqb, ne-eqb}
-use Rattle.words.specs.Tests.{if_then_else_, _<?_, _=?_}
+use borrow.Author.Tests.{eq-eqb, ne-eqb}
+use Rattle.words.specs.Tests.{_<?_}
 use Rattle.words.specs.Lists.{every}
 use Rattle.words.specs.Said.{Refusal, first}
-use Rattle.words.proofs.Booleans.{both-hold}
+use Rattle.words.proofs.Said.{first-after}
 
 -- conditions joined one after the other, as `&` does
 abbrev pub joined : Bool → List Bool → Bool
@@ -38,25 +38,10 @@ module _ {A B : Type 0} (f : A → B) where
       rw (add-one i, take-suc xs i none h, map-append (take i xs) (getD xs i none ∷ []), append-assoc)
       (set-at (map f (take i xs)) blank (replicate k blank) (f (getD xs i none)) i size)
 
--- the number of two tables, one after the other
-first-append : (rs more : List Refusal) → every (λ r. 0 <? r .no) rs ≡ true
-    → first (rs ++ more) ≡ (if first rs =? 0 then first more else first rs)
-unfolding first every
-first-append [] more numbered = refl
-first-append (r ∷ rs) more numbered =
-    let positive = both-hold (0 <? r .no) (every (λ r. 0 <? r .no) rs) numbered in
-    by (r .applies) (ltb-true _ _ (positive .0)) (first-append rs more (positive .1))
-  where
-    by : (b : Bool) → 0 < r .no → first (rs ++ more) ≡ (if first rs =? 0 then first more else first rs)
-        → (if b then r .no else first (rs ++ more))
-        ≡ (if (if b then r .no else first rs) =? 0 then first more else (if b then r .no else first rs))
-    by true h e = rw (ne-eqb (r .no) 0 (λ z. omega arith))
-    by false h e = e
-
--- it is the first's, or where that gives none the second's
+-- the number of two tables, one after the other: it is the first's, or where that gives none the second's
 module _ (rs more : List Refusal) (numbered : every (λ r. 0 <? r .no) rs ≡ true) where
   pub first-refused : (first rs ≡ 0 → ⊥) → first (rs ++ more) ≡ first rs
-  first-refused h = rw (first-append rs more numbered, ne-eqb (first rs) 0 h)
+  first-refused h = rw (first-after rs more numbered, ne-eqb (first rs) 0 h)
 
   pub first-passed : first rs ≡ 0 → first (rs ++ more) ≡ first more
-  first-passed e = rw (first-append rs more numbered, eq-eqb (first rs) 0 e)
+  first-passed e = rw (first-after rs more numbered, eq-eqb (first rs) 0 e)
