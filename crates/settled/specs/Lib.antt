@@ -8,3 +8,4 @@ pub mod OfObserver
 pub mod OfLent
 pub mod OfStandby
 pub mod OfFiles
+pub mod OfFirmware

@@ -9,6 +9,7 @@ ghost use Rattle.settled.specs.OfObserver.{ObserverSettled};
 ghost use Rattle.settled.specs.OfLent.{LentSettled};
 ghost use Rattle.settled.specs.OfStandby.{StandbySettled};
 ghost use Rattle.settled.specs.OfFiles.{FilesSettled};
+ghost use Rattle.settled.specs.OfFirmware.{FirmwareSettled};
 
 // The public functions of `settings`.
 pub fn settings_settled()
@@ -48,4 +49,9 @@ pub fn standby_settled()
 // The public functions of `step_lines`, `answer_lines`, `session` and `stepfile`.
 pub fn files_settled()
     ensures { λ _. ⌜ FilesSettled ⌝ }
+{}
+
+// The C calls of `firmware`.
+pub fn firmware_settled()
+    ensures { λ _. ⌜ FirmwareSettled ⌝ }
 {}

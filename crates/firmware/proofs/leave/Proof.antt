@@ -1,0 +1,32 @@
+-- A refusal leaves the bytes, any other answer the record's. Assumes nothing.
+use mathlib.Core.Path.{_≡_, refl, sym, _∙_}
+use Rattle.firmware.specs.Calls.{leftBy}
+use borrow.Author.Needs.{needs}
+use Rattle.firmware.proofs.leave.Statement.{statement}
+use Rattle.firmware.proofs.leave.Tie as tie
+
+is-refused-requires : tie.Need-is-refused-requires
+is-refused-requires c κs = search needs
+
+code-of-requires : tie.Need-code-of-requires
+code-of-requires c κs = search needs
+
+returns : tie.Need-returns
+unfolding leftBy
+returns c = rw (← (c .before .before .is-refused .ensures), c .before .if1 .taken) (c .code-of .ensures, refl)
+
+encode-requires : tie.Need-encode-requires
+encode-requires c κs = c .before .before .before .before .before .pre
+
+code-of-requires-2 : tie.Need-code-of-requires-2
+code-of-requires-2 c κs = search needs
+
+same-length : tie.Need-same-length
+same-length c = search needs
+
+returns-2 : tie.Need-returns-2
+unfolding leftBy
+returns-2 c = rw (← (c .before .before .before .before .before .before .before .is-refused .ensures), c .before .before .before .before .before .before .if1 .left) (c .code-of2 .ensures, c .before .before .before .encode .ensures)
+
+pub leave-spec : {M : Type 1} → statement M
+leave-spec = tie.close (tie.spec is-refused-requires code-of-requires returns encode-requires code-of-requires-2 same-length returns-2)
