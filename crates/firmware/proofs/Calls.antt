@@ -9,7 +9,7 @@ use Rattle.words.specs.Said.{first}
 use Rattle.words.proofs.Said.{none-applies}
 use Rattle.settings.specs.declared.Settings.{Settings}
 use Rattle.messages.specs.Outcomes.{Outcome}
-use Rattle.recorder.specs.declared.Recorder.{Recorder}
+use Rattle.recorder_rules.specs.declared.Recorder.{Recorder}
 use Rattle.firmware.specs.Bytes.{decoded}
 use Rattle.firmware.specs.Calls.{callRefusals, leftBy, called}
 

@@ -12,8 +12,8 @@ use Rattle.words.specs.Tests.{_<?_}
 use Rattle.words.specs.Lists.{every}
 use Rattle.words.proofs.Booleans.{both-hold}
 use Rattle.words.proofs.Walks.{every-drop}
-use Rattle.recorder.specs.declared.Recorder.{Recorder}
-use Rattle.recorder.specs.Claims.{Sized}
+use Rattle.recorder_rules.specs.declared.Recorder.{Recorder}
+use Rattle.recorder_rules.specs.Claims.{Sized}
 use Rattle.firmware.specs.Bytes.{wordOf, bytesIn, wordsAt, bytesOf, numbersOf, recordOf, decoded, encoded}
 use Rattle.firmware.specs.Claims.{isByte, isWord, BytesComeBack, RecordComesBack}
 use Rattle.firmware.proofs.Words.{bytes-length, words-bytes-length, words-length}

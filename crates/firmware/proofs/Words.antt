@@ -9,8 +9,8 @@ use lib.ListN.{length, take, drop, getD, set, replicate, length-append, drop-of-
 use lib.Seq.{drop-cons, drop-drop, length-take-le, set-at, take-suc}
 use Rattle.fields.specs.Places.{putAt}
 use Rattle.fields.proofs.Rooms.{put-fits, put-more}
-use Rattle.recorder.specs.declared.Recorder.{Recorder}
-use Rattle.recorder.specs.Recorder.{lastSend, lastReading, openLeases}
+use Rattle.recorder_rules.specs.declared.Recorder.{Recorder}
+use Rattle.recorder_rules.specs.Recorder.{lastSend, lastReading, openLeases}
 use Rattle.firmware.specs.Bytes.{wordOf, bytesIn, wordsAt, bytesOf, encoded}
 
 -- one byte of a part

@@ -12,8 +12,8 @@ use Rattle.settings.specs.Settings.{settings, refusals}
 use Rattle.fields.specs.Places.{isExactly}
 use Rattle.messages.specs.Answers.{Spoken, message, wordWith}
 use Rattle.messages.specs.Outcomes.{Outcome}
-use Rattle.recorder.specs.declared.Recorder.{Recorder}
-use Rattle.recorder.specs.Recorder.{tickOf, grantOf, driveOf}
+use Rattle.recorder_rules.specs.declared.Recorder.{Recorder}
+use Rattle.recorder_rules.specs.Recorder.{tickOf, grantOf, driveOf}
 use Rattle.firmware.specs.Bytes.{decoded, encoded}
 
 -- the settings, in document 01's order

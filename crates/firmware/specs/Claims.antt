@@ -6,8 +6,8 @@ use mathlib.Core.Path.{_≡_}
 use lib.ListN.{length}
 use Rattle.words.specs.Tests.{_<?_}
 use Rattle.words.specs.Lists.{every}
-use Rattle.recorder.specs.declared.Recorder.{Recorder}
-use Rattle.recorder.specs.Claims.{Sized}
+use Rattle.recorder_rules.specs.declared.Recorder.{Recorder}
+use Rattle.recorder_rules.specs.Claims.{Sized}
 use Rattle.firmware.specs.Bytes.{numbersOf, decoded, encoded}
 
 -- what a byte and a word can hold

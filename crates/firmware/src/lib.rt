@@ -1,7 +1,7 @@
 // The recorder's steps for C firmware, over the 680 bytes of a record. Serves document 01, "Recorder": 85 words of 8 bytes,
 // the low byte first. The header for C is include/recorder.h.
 use messages::Answer;
-use recorder::Recorder;
+use recorder_rules::Recorder;
 use recorder::Stepped;
 use settings::Settings;
 use settings::refusal;

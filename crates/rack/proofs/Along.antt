@@ -21,13 +21,13 @@ use Rattle.messages.specs.Answers.Spoken.{message, wordWith}
 use Rattle.messages.specs.declared.Message.the-variants.{LeaseRequest, LeaseGrant}
 use Rattle.messages.specs.Outcomes.{_leaving_}
 use Rattle.messages.proofs.Outcomes.{either-way}
-use Rattle.recorder.specs.declared.Recorder.{Recorder}
-use Rattle.recorder.specs.Recorder.{Event as RecorderEvent, fresh as freshRecorder, stepOf as recorderStep, advanced, due, requesting, granting, granted, registered, standing, tickEvent, grantEvent, driveEvent}
-use Rattle.recorder.specs.Recorder.Event.{tick, grant, drive}
-use Rattle.recorder.proofs.Grants.{granted-at}
-use Rattle.recorder.proofs.Ways.{eventOf, each-way}
-use Rattle.recorder.proofs.Keeping.{form-is-kept}
-use Rattle.recorder.proofs.Formed.{formed}
+use Rattle.recorder_rules.specs.declared.Recorder.{Recorder}
+use Rattle.recorder_rules.specs.Recorder.{Event as RecorderEvent, fresh as freshRecorder, stepOf as recorderStep, advanced, due, requesting, granting, granted, registered, standing, tickEvent, grantEvent, driveEvent}
+use Rattle.recorder_rules.specs.Recorder.Event.{tick, grant, drive}
+use Rattle.recorder_rules.proofs.Grants.{granted-at}
+use Rattle.recorder_rules.proofs.Ways.{eventOf, each-way}
+use Rattle.recorder_rules.proofs.Keeping.{form-is-kept}
+use Rattle.recorder_rules.proofs.Formed.{formed}
 use Rattle.observer.specs.declared.Observer.{Observer}
 use Rattle.observer.specs.Observer.{Event as ObserverEvent, stepOf as observerStep, requestRefusals, cutRefusals, checkRefusals, requestOf, cutOf, checkOf}
 use Rattle.observer.specs.Observer.Event.{request, cut, check}

@@ -15,13 +15,13 @@ use Rattle.messages.specs.declared.Message.{Message}
 use Rattle.messages.specs.declared.Message.the-variants.{LeaseRequest, LeaseGrant}
 use Rattle.messages.specs.Answers.{sends, says}
 use Rattle.messages.specs.Outcomes.{Outcome, _leaving_}
-use Rattle.recorder.specs.declared.Recorder.{Recorder}
-use Rattle.recorder.specs.Recorder.{Event, stepOf, lastReading, oldest, granted, halted, standing, registered}
-use Rattle.recorder.specs.Recorder.Event.{grant}
-use Rattle.recorder.proofs.Grants.{granted-at}
-use Rattle.recorder.proofs.Keeping.{Good, step-good}
-use Rattle.recorder.proofs.Steps.{Going, Quiet, Asking, leaves, IsOpen, sentAt, sent-young, oldest-after, closed-granted, sent-kept, sent-now, place-after}
-use Rattle.recorder.proofs.Ways.{each-way}
+use Rattle.recorder_rules.specs.declared.Recorder.{Recorder}
+use Rattle.recorder_rules.specs.Recorder.{Event, stepOf, lastReading, oldest, granted, halted, standing, registered}
+use Rattle.recorder_rules.specs.Recorder.Event.{grant}
+use Rattle.recorder_rules.proofs.Grants.{granted-at}
+use Rattle.recorder_rules.proofs.Keeping.{Good, step-good}
+use Rattle.recorder_rules.proofs.Steps.{Going, Quiet, Asking, leaves, IsOpen, sentAt, sent-young, oldest-after, closed-granted, sent-kept, sent-now, place-after}
+use Rattle.recorder_rules.proofs.Ways.{each-way}
 use Rattle.rack.specs.Clocks.{Clocks}
 use Rattle.rack.specs.Runs.{State, posted, delivered, wasSent}
 use Rattle.rack.specs.Runs.Event.{atRecorder}

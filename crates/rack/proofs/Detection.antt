@@ -22,7 +22,7 @@ use Rattle.messages.specs.declared.Message.the-variants.{LeaseRequest}
 use Rattle.messages.specs.Messages.{topReading}
 use Rattle.messages.specs.Answers.{Spoken, saysOf}
 use Rattle.messages.specs.Answers.Spoken.{message, wordWith}
-use Rattle.recorder.specs.Recorder.{registered}
+use Rattle.recorder_rules.specs.Recorder.{registered}
 use Rattle.observer.specs.Observer.Event.{request, cut, check}
 use Rattle.standby.specs.declared.Place.{Place}
 use Rattle.standby.specs.Standby.{keptMarks, keeping, verdict, greatest, unused, noPlaces}

@@ -10,10 +10,10 @@ use lib.ListN.{length, getD}
 use Rattle.settings.specs.declared.Settings.{Settings}
 use Rattle.settings.specs.Settings.{O}
 use Rattle.settings.specs.Quorums.{survives, _∋_}
-use Rattle.recorder.specs.declared.Recorder.{Recorder}
-use Rattle.recorder.specs.Recorder.{lastReading as lastOfRecorder, oldest}
-use Rattle.recorder.proofs.Keeping.{Good}
-use Rattle.recorder.proofs.Steps.{IsOpen, sentAt}
+use Rattle.recorder_rules.specs.declared.Recorder.{Recorder}
+use Rattle.recorder_rules.specs.Recorder.{lastReading as lastOfRecorder, oldest}
+use Rattle.recorder_rules.proofs.Keeping.{Good}
+use Rattle.recorder_rules.proofs.Steps.{IsOpen, sentAt}
 use Rattle.observer.specs.declared.Observer.{Observer}
 use Rattle.observer.specs.Observer.{hasForm as observerHasForm}
 use Rattle.standby.specs.declared.Place.{Place}

@@ -23,10 +23,10 @@ use Rattle.messages.specs.Answers.{Spoken, refuses, sends, says}
 use Rattle.messages.specs.Answers.Spoken.{message, wordWith}
 use Rattle.messages.specs.Outcomes.{Outcome, _leaving_, badReading}
 use Rattle.messages.proofs.Outcomes.{either-way, not-refused}
-use Rattle.recorder.specs.declared.Recorder.{Recorder}
-use Rattle.recorder.specs.Recorder.{Event as RecorderEvent, stepOf as recorderStep, advanced, due, requesting, granting, registered, standing, tickEvent, grantEvent, driveEvent}
-use Rattle.recorder.specs.Recorder.Event.{tick, grant, drive}
-use Rattle.recorder.proofs.Ways.{eventOf, each-way}
+use Rattle.recorder_rules.specs.declared.Recorder.{Recorder}
+use Rattle.recorder_rules.specs.Recorder.{Event as RecorderEvent, stepOf as recorderStep, advanced, due, requesting, granting, registered, standing, tickEvent, grantEvent, driveEvent}
+use Rattle.recorder_rules.specs.Recorder.Event.{tick, grant, drive}
+use Rattle.recorder_rules.proofs.Ways.{eventOf, each-way}
 use Rattle.observer.specs.declared.Observer.{Observer}
 use Rattle.observer.specs.Observer.{Event as ObserverEvent, stepOf as observerStep, requestRefusals, cutRefusals, checkRefusals, requestOf, cutOf, checkOf}
 use Rattle.observer.specs.Observer.Event.{request, cut, check}

@@ -16,11 +16,11 @@ use Rattle.settings.proofs.Laws.{accepted}
 use Rattle.settings.proofs.Quorums.{quorums-meet}
 use Rattle.messages.specs.Messages.{topReading}
 use Rattle.messages.specs.Answers.{says, saysOf}
-use Rattle.recorder.specs.Recorder.{Event as RecorderEvent, stepOf as recorderStep, lastReading, oldest}
-use Rattle.recorder.specs.Recorder.Event.{drive}
-use Rattle.recorder.specs.Claims.{Sized}
-use Rattle.recorder.proofs.Steps.{Going, IsOpen, running-after, reading-after, sent-young}
-use Rattle.recorder.proofs.Ways.{each-way}
+use Rattle.recorder_rules.specs.Recorder.{Event as RecorderEvent, stepOf as recorderStep, lastReading, oldest}
+use Rattle.recorder_rules.specs.Recorder.Event.{drive}
+use Rattle.recorder_rules.specs.Claims.{Sized}
+use Rattle.recorder_rules.proofs.Steps.{Going, IsOpen, running-after, reading-after, sent-young}
+use Rattle.recorder_rules.proofs.Ways.{each-way}
 use Rattle.standby.specs.Standby.{noPlaces}
 use Rattle.standby.proofs.Verdicts.{says-other}
 use Rattle.rack.specs.Clocks.{Clocks, reads}

@@ -10,8 +10,8 @@ use Rattle.settings.specs.Quorums.{members, survives, closes}
 use Rattle.messages.specs.declared.Status.the-variants.{Alive, Dead}
 use Rattle.messages.specs.Answers.{saysOf}
 use Rattle.messages.specs.Outcomes.{unlessRefused}
-use Rattle.recorder.specs.Recorder as recorder
-use Rattle.recorder.specs.Recorder.Event.{grant}
+use Rattle.recorder_rules.specs.Recorder as recorder
+use Rattle.recorder_rules.specs.Recorder.Event.{grant}
 use Rattle.observer.specs.Observer as observer
 use Rattle.standby.specs.Standby as standby
 use Rattle.standby.specs.Standby.Event.{ack}

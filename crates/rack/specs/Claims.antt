@@ -14,8 +14,8 @@ use Rattle.settings.specs.Quorums.{closes}
 use Rattle.messages.specs.declared.Message.{Message}
 use Rattle.messages.specs.declared.Message.the-variants.{LeaseRequest, LeaseGrant, Check, CheckAck}
 use Rattle.messages.specs.Answers.{Spoken, refuses, says, saysOf}
-use Rattle.recorder.specs.Recorder.{Event as RecorderEvent, registered}
-use Rattle.recorder.specs.Recorder.Event.{drive}
+use Rattle.recorder_rules.specs.Recorder.{Event as RecorderEvent, registered}
+use Rattle.recorder_rules.specs.Recorder.Event.{drive}
 use Rattle.observer.specs.Observer.Event.{request, cut, check}
 use Rattle.standby.specs.Standby.Event.{begin, ack, poll}
 use Rattle.rack.specs.Clocks.{Clocks}

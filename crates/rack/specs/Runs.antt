@@ -18,9 +18,9 @@ use Rattle.messages.specs.Messages.{topReading}
 use Rattle.messages.specs.Answers.{Spoken, refuses}
 use Rattle.messages.specs.Answers.Spoken.{message, wordWith}
 use Rattle.messages.specs.Outcomes.{Outcome}
-use Rattle.recorder.specs.declared.Recorder.{Recorder}
-use Rattle.recorder.specs.Recorder.{Event as RecorderEvent, stepOf as recorderStep, fresh as freshRecorder}
-use Rattle.recorder.specs.Recorder.Event.{tick, grant, drive}
+use Rattle.recorder_rules.specs.declared.Recorder.{Recorder}
+use Rattle.recorder_rules.specs.Recorder.{Event as RecorderEvent, stepOf as recorderStep, fresh as freshRecorder}
+use Rattle.recorder_rules.specs.Recorder.Event.{tick, grant, drive}
 use Rattle.observer.specs.declared.Observer.{Observer}
 use Rattle.observer.specs.Observer.{Event as ObserverEvent, stepOf as observerStep, restartOf, fresh as freshObserver}
 use Rattle.observer.specs.Observer.Event.{request, cut, check}

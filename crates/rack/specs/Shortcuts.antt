@@ -16,10 +16,10 @@ use Rattle.messages.specs.declared.Status.the-variants.{Alive, Dead}
 use Rattle.messages.specs.declared.Message.the-variants.{LeaseRequest, LeaseGrant, Check, CheckAck}
 use Rattle.messages.specs.Answers.{Spoken, sends, says, saysOf}
 use Rattle.messages.specs.Outcomes.{Outcome, _leaving_, unlessRefused}
-use Rattle.recorder.specs.declared.Recorder.{Recorder}
-use Rattle.recorder.specs.Recorder as recorder
-use Rattle.recorder.specs.Recorder.{Event as RecorderEvent}
-use Rattle.recorder.specs.Recorder.Event.{tick, grant, drive}
+use Rattle.recorder_rules.specs.declared.Recorder.{Recorder}
+use Rattle.recorder_rules.specs.Recorder as recorder
+use Rattle.recorder_rules.specs.Recorder.{Event as RecorderEvent}
+use Rattle.recorder_rules.specs.Recorder.Event.{tick, grant, drive}
 use Rattle.observer.specs.declared.Observer.{Observer}
 use Rattle.observer.specs.Observer as observer
 use Rattle.observer.specs.Observer.{Event as ObserverEvent}

@@ -15,8 +15,8 @@ use Rattle.words.proofs.Gathered.{joined, joined-every}
 use Rattle.settings.specs.declared.Settings.{Settings}
 use Rattle.settings.specs.Settings.{n, η}
 use Rattle.messages.specs.Messages.{topCounter, topReading}
-use Rattle.recorder.specs.declared.Recorder.{Recorder}
-use Rattle.recorder.specs.Recorder.{lastSend, lastReading, openLeases, leases, isZero, spaced, allZero, young, form, hasForm}
+use Rattle.recorder_rules.specs.declared.Recorder.{Recorder}
+use Rattle.recorder_rules.specs.Recorder.{lastSend, lastReading, openLeases, leases, isZero, spaced, allZero, young, form, hasForm}
 
 -- what the code tests of the numbers where the counter is 0
 abbrev numbersZero : Recorder → Bool

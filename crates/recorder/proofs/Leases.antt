@@ -13,8 +13,8 @@ use Rattle.words.specs.Tests.{if_then_else_, _≤?_}
 use Rattle.words.proofs.Walks.{next}
 use Rattle.settings.specs.declared.Settings.{Settings}
 use Rattle.settings.specs.Quorums.{survives}
-use Rattle.recorder.specs.declared.Recorder.{Recorder}
-use Rattle.recorder.specs.Recorder.{granted, spaced, hasEnded, lackingFrom, kept, placed}
+use Rattle.recorder_rules.specs.declared.Recorder.{Recorder}
+use Rattle.recorder_rules.specs.Recorder.{granted, spaced, hasEnded, lackingFrom, kept, placed}
 
 -- ---- Spacing: one pair more, and the end
 

@@ -6,10 +6,10 @@ use mir.Val.{Val}
 use denote.Laws.{Is}
 use denote.Struct.Declared.{row}
 use denote.Struct.Laws.{owed}
-use Rattle.recorder.specs.declared.Recorder.{Recorder}
-use Rattle.recorder.specs.Claims.{Sized}
-use Rattle.recorder.proofs.Recorder.{the-type}
-use Rattle.recorder.proofs.Recorder.Laws.{the-laws}
+use Rattle.recorder_rules.specs.declared.Recorder.{Recorder}
+use Rattle.recorder_rules.specs.Claims.{Sized}
+use Rattle.recorder_rules.proofs.Recorder.{the-type}
+use Rattle.recorder_rules.proofs.Recorder.Laws.{the-laws}
 
 pub sized : (rec : Recorder) (vs : List Val) → Is (row the-type) rec vs → Sized rec
 sized rec vs is =

@@ -12,15 +12,15 @@ use Rattle.settings.specs.declared.Settings.{Settings}
 use Rattle.messages.specs.Answers.{says}
 use Rattle.messages.specs.Outcomes.{Outcome, _leaving_, unlessRefused}
 use Rattle.messages.proofs.Outcomes.{not-refused}
-use Rattle.recorder.specs.declared.Recorder.{Recorder}
+use Rattle.recorder_rules.specs.declared.Recorder.{Recorder}
 use Rattle.recorder.specs.declared.Advanced.{Advanced}
-use Rattle.recorder.specs.Recorder.{isZero, leases, lacking, kept, placed, advanced, halted, accepted}
-use Rattle.recorder.specs.Claims.{Sized}
+use Rattle.recorder_rules.specs.Recorder.{isZero, leases, lacking, kept, placed, advanced, halted, accepted}
+use Rattle.recorder_rules.specs.Claims.{Sized}
 use Rattle.recorder.specs.Parts.{Bounded, advancedTo, Roomy}
-use Rattle.recorder.proofs.Formed.{Formed, has-form}
-use Rattle.recorder.proofs.Placing.{placed-back}
-use Rattle.recorder.proofs.Room.{room-advanced}
-use Rattle.recorder.proofs.Ways.{Allowed}
+use Rattle.recorder_rules.proofs.Formed.{Formed, has-form}
+use Rattle.recorder_rules.proofs.Placing.{placed-back}
+use Rattle.recorder_rules.proofs.Room.{room-advanced}
+use Rattle.recorder_rules.proofs.Ways.{Allowed}
 
 pub bounded : {s : Settings} {rec : Recorder} → Formed s rec → Bounded rec
 bounded f = record { places = f .leases-places; open-leases = f .leases-counter; counter = f .counter-top }

@@ -1,7 +1,7 @@
 -- What a step's result says: its answer in the numbers and words of 01, and the record that it leaves.
 use Rattle.messages.specs.Answers.{said}
 use Rattle.messages.specs.Outcomes.{Outcome}
-use Rattle.recorder.specs.declared.Recorder.{Recorder}
+use Rattle.recorder_rules.specs.declared.Recorder.{Recorder}
 use Rattle.recorder.specs.declared.Stepped.{Stepped}
 
 abbrev pub outcome : Stepped → Outcome Recorder

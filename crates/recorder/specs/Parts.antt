@@ -6,10 +6,10 @@ use lib.ListN.{length}
 use Rattle.words.specs.Tests.{if_then_else_}
 use Rattle.settings.specs.declared.Settings.{Settings}
 use Rattle.messages.specs.Messages.{topCounter}
-use Rattle.recorder.specs.declared.Recorder.{Recorder}
+use Rattle.recorder_rules.specs.declared.Recorder.{Recorder}
 use Rattle.recorder.specs.declared.Sifted.{Sifted}
 use Rattle.recorder.specs.declared.Advanced.{Advanced}
-use Rattle.recorder.specs.Recorder.{openLeases, leases, isZero, lacking, kept, placed, advanced, halted, due}
+use Rattle.recorder_rules.specs.Recorder.{openLeases, leases, isZero, lacking, kept, placed, advanced, halted, due}
 
 -- bounds that every record of the form meets
 pub record Bounded (rec : Recorder) : Type 0 where

@@ -1,4 +1,5 @@
-// The recorder: the party that drives while its leases hold. Serves document 01, "Recorder".
+// The recorder: the party that drives while its leases hold. Serves document 01, "Recorder". What a step is to do, and what
+// every step keeps, stands in `recorder_rules`.
 ghost use mathlib.Core.Path.{_≡_};
 ghost use mathlib.Core.List.{map};
 ghost use Prim.Native.Nat.{_-_, _≤_, _<_};
@@ -9,31 +10,16 @@ ghost use Rattle.words.specs.Said.{first};
 ghost use Rattle.settings.specs.Quorums.{survives};
 ghost use Rattle.messages.specs.Answers.{said, refuses};
 ghost use Rattle.messages.specs.Outcomes.{_leaving_};
-ghost use Rattle.recorder.specs.Recorder.{isZero, spaced, hasForm, stepRefusals, grantRefusals, granted, standing, higher, tickEvent, grantEvent, driveEvent, tickOf, grantOf, driveOf};
+ghost use Rattle.recorder_rules.specs.Recorder.{isZero, spaced, hasForm, stepRefusals, grantRefusals, granted, standing, higher, tickEvent, grantEvent, driveEvent, tickOf, grantOf, driveOf};
 ghost use Rattle.recorder.specs.Outcome.{outcome};
 ghost use Rattle.recorder.specs.Parts.{Bounded, SiftedAt, advancedTo, Roomy};
-ghost use Rattle.recorder.specs.Claims.{FormIsKept, StoppedStays, GrantsNeverFall, PlacesSuffice, NewestAreKept};
 use messages::Answer;
 use messages::Message;
 use messages::TOP_COUNTER;
 use messages::TOP_READING;
+use recorder_rules::Recorder;
 use settings::Settings;
 use settings::contains_survival_quorum;
-
-// The record, in 01's order: 85 numbers.
-pub struct Recorder {
-    // 0, or 1 once the recorder has stopped for good
-    pub stopped: u64,
-    // the number of the last request
-    pub counter: u64,
-    pub last_send: u64,
-    pub last_reading: u64,
-    pub open_leases: u64,
-    // send readings of the open leases, oldest first
-    pub sends: [u64; 64],
-    // highest grant from each observer
-    pub grants: [u64; 16],
-}
 
 // A step's answer, and the record that it leaves.
 pub struct Stepped {
@@ -405,24 +391,3 @@ pub fn drive(s: Settings, rec: Recorder, reading: u64) -> Stepped
         }
     }
 }
-
-// What every step keeps, whatever its event: the claims stand in specs/Claims.antt.
-pub fn form_is_kept()
-    ensures { λ _. ⌜ FormIsKept ⌝ }
-{}
-
-pub fn stopped_stays()
-    ensures { λ _. ⌜ StoppedStays ⌝ }
-{}
-
-pub fn grants_never_fall()
-    ensures { λ _. ⌜ GrantsNeverFall ⌝ }
-{}
-
-pub fn places_suffice()
-    ensures { λ _. ⌜ PlacesSuffice ⌝ }
-{}
-
-pub fn newest_are_kept()
-    ensures { λ _. ⌜ NewestAreKept ⌝ }
-{}

@@ -1,6 +1,6 @@
 // One observer, as many survivors as observers, and sixteen of each.
 use crate::steps;
-use recorder::Recorder;
+use recorder_rules::Recorder;
 use settings::Settings;
 
 // Request 1 has left at 0.

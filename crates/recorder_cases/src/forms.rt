@@ -1,7 +1,7 @@
 // Records on either side of each condition of the form, shown by a drive: 3 where the form is lacking.
 use crate::steps;
 use messages::TOP_READING;
-use recorder::Recorder;
+use recorder_rules::Recorder;
 
 // Request 1 has left at 1000, request 2 at 1100; observer 0 has granted 2 and observer 1 has granted 1; the last reading is 1150.
 fn good() -> Recorder {

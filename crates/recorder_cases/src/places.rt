@@ -1,7 +1,7 @@
 // Several leases ended at once, after a freeze, and more requests than there are places.
 use crate::show;
 use crate::steps;
-use recorder::Recorder;
+use recorder_rules::Recorder;
 use settings::Settings;
 
 // η 10, P 40, G 1: four leases are open at once.

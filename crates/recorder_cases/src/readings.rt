@@ -1,7 +1,7 @@
 // The first and the last reading, the last counter, and readings past their range or before the last one.
 use crate::steps;
 use messages::TOP_READING;
-use recorder::Recorder;
+use recorder_rules::Recorder;
 
 // A record whose one open lease is its last send.
 fn one_lease(counter: u64, send: u64) -> Recorder {

@@ -1,6 +1,6 @@
 // Each refusal 1 to 6, and each two that can apply at once: the lower is given.
 use crate::steps;
-use recorder::Recorder;
+use recorder_rules::Recorder;
 use settings::Settings;
 
 // Request 1 has left at 1000.

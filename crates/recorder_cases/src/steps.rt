@@ -1,6 +1,6 @@
 // A step of the recorder under its label: its answer is shown, its record goes on to the next case.
 use crate::show;
-use recorder::Recorder;
+use recorder_rules::Recorder;
 use settings::Settings;
 
 // n, t, η, Δ, P, O, G: 01's order.

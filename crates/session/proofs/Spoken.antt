@@ -17,8 +17,8 @@ use Rattle.messages.specs.declared.Answer.{Answer}
 use Rattle.messages.specs.declared.Answer.the-variants.{Refused, Send, Unregistered, Running, Stopped, Silent, Cut, Waiting, Late, Unknown, Dead, Alive}
 use Rattle.messages.specs.Answers.{Spoken, said}
 use Rattle.messages.specs.Outcomes.{Outcome, unlessRefused}
-use Rattle.recorder.specs.declared.Recorder.{Recorder}
-use Rattle.recorder.specs.Recorder as R
+use Rattle.recorder_rules.specs.declared.Recorder.{Recorder}
+use Rattle.recorder_rules.specs.Recorder as R
 use Rattle.observer.specs.declared.Observer.{Observer}
 use Rattle.observer.specs.Observer as O
 use Rattle.standby.specs.declared.Place.{Place}

@@ -6,8 +6,8 @@ use Rattle.settings.specs.declared.Settings.{Settings}
 use Rattle.settings.specs.Settings.{window}
 use Rattle.messages.specs.Answers.{refuses}
 use Rattle.messages.specs.Outcomes.{Outcome, _leaving_}
-use Rattle.recorder.specs.declared.Recorder.{Recorder}
-use Rattle.recorder.specs.Recorder.{Event as RecorderEvent, tick, grant, drive, stepOf as recorderOf, fresh as freshRecorder}
+use Rattle.recorder_rules.specs.declared.Recorder.{Recorder}
+use Rattle.recorder_rules.specs.Recorder.{Event as RecorderEvent, tick, grant, drive, stepOf as recorderOf, fresh as freshRecorder}
 use Rattle.observer.specs.declared.Observer.{Observer}
 use Rattle.observer.specs.Observer.{Event as ObserverEvent, request, cut, check, stepOf as observerOf, fresh as freshObserver}
 use Rattle.standby.specs.declared.Standby.{Standby}

@@ -3,7 +3,7 @@
 // gives the record of its party alone: to pass all of them through each line would cost more than the steps.
 use messages::Status;
 use observer::Observer;
-use recorder::Recorder;
+use recorder_rules::Recorder;
 use settings::Settings;
 use standby::Place;
 use standby::Standby;
@@ -12,7 +12,7 @@ use step_lines::RecorderStep;
 use step_lines::StandbyStep;
 ghost use mathlib.Core.Path.{_≡_};
 ghost use lib.ListN.{set};
-ghost use Rattle.recorder.specs.Recorder.{stepOf as recorderOf};
+ghost use Rattle.recorder_rules.specs.Recorder.{stepOf as recorderOf};
 ghost use Rattle.recorder.specs.Outcome.{outcome as recorderOutcome};
 ghost use Rattle.observer.specs.Observer.{stepOf as observerOf, fresh as freshObserver};
 ghost use Rattle.observer.specs.Outcome.{outcome as observerOutcome};

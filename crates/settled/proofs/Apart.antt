@@ -2,7 +2,7 @@
 use mathlib.Core.Path.{_≡_, ap}
 use Rattle.messages.proofs.Apart.{said-apart}
 use Rattle.messages.specs.Outcomes.{Outcome}
-use Rattle.recorder.specs.declared.Recorder.{Recorder}
+use Rattle.recorder_rules.specs.declared.Recorder.{Recorder}
 use Rattle.recorder.specs.declared.Stepped as R
 use Rattle.recorder.specs.Outcome.{outcome as recorderOutcome}
 use Rattle.observer.specs.declared.Observer.{Observer}

@@ -13,7 +13,7 @@ use Rattle.fields.proofs.Rooms.{length-put, put-nothing, put-more}
 use Rattle.messages.specs.Answers.{Spoken}
 use Rattle.messages.specs.Outcomes.{Outcome}
 use Rattle.settings.specs.declared.Settings.{Settings}
-use Rattle.recorder.specs.declared.Recorder as Recorder
+use Rattle.recorder_rules.specs.declared.Recorder as Recorder
 use Rattle.observer.specs.declared.Observer as Observer
 use Rattle.standby.specs.declared.Standby as Standby
 use Rattle.step_lines.specs.declared.StepLine.{StepLine}

@@ -1,7 +1,7 @@
 -- The call's own refusals, then the step on the decoded record. Assumes nothing.
 use mathlib.Core.Path.{refl, sym, _∙_}
 use denote.Ref.{now}
-use Rattle.recorder.specs.Recorder.{grantOf}
+use Rattle.recorder_rules.specs.Recorder.{grantOf}
 use Rattle.firmware.specs.Calls.{grantCall}
 use Rattle.firmware.proofs.Calls.{size, goes, refused}
 use borrow.Author.Needs.{needs}

@@ -1,7 +1,7 @@
 -- `recorder::advance` meets its contract. Assumes nothing.
 use borrow.Author.Tests.{eq-eqb, ne-eqb}
 use borrow.Author.Needs.{needs}
-use Rattle.recorder.specs.Recorder.{advanced}
+use Rattle.recorder_rules.specs.Recorder.{advanced}
 use Rattle.recorder.specs.Parts.{advancedTo}
 use Rattle.recorder.proofs.advance.Statement.{statement}
 use Rattle.recorder.proofs.advance.Tie as tie

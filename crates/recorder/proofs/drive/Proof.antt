@@ -6,10 +6,10 @@ use Rattle.words.specs.Said.{Refusal, first}
 use Rattle.messages.specs.Answers.{said}
 use Rattle.messages.specs.Outcomes.{Outcome}
 use Rattle.messages.proofs.Outcomes.{is-refused}
-use Rattle.recorder.specs.declared.Recorder.{Recorder}
-use Rattle.recorder.specs.Recorder.{stepRefusals, accepted, driveEvent, driveOf}
-use Rattle.recorder.specs.Recorder.Event.{drive}
-use Rattle.recorder.proofs.Ways.{allowed, Allowed}
+use Rattle.recorder_rules.specs.declared.Recorder.{Recorder}
+use Rattle.recorder_rules.specs.Recorder.{stepRefusals, accepted, driveEvent, driveOf}
+use Rattle.recorder_rules.specs.Recorder.Event.{drive}
+use Rattle.recorder_rules.proofs.Ways.{allowed, Allowed}
 use Rattle.recorder.proofs.Walked.{bounded, by-advance}
 use Rattle.recorder.proofs.drive.Statement.{statement}
 use Rattle.recorder.proofs.drive.Tie as tie

@@ -1,6 +1,6 @@
 -- `recorder::drive_event` meets its contract. Assumes nothing.
 use borrow.Author.Needs.{needs}
-use Rattle.recorder.specs.Recorder.{driveEvent}
+use Rattle.recorder_rules.specs.Recorder.{driveEvent}
 use Rattle.recorder.proofs.drive_event.Statement.{statement}
 use Rattle.recorder.proofs.drive_event.Tie as tie
 

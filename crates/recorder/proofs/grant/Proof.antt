@@ -8,10 +8,10 @@ use Rattle.settings.proofs.Laws.{accepted-in-range}
 use Rattle.messages.specs.Answers.{said}
 use Rattle.messages.specs.Outcomes.{Outcome}
 use Rattle.messages.proofs.Outcomes.{is-refused}
-use Rattle.recorder.specs.declared.Recorder.{Recorder}
-use Rattle.recorder.specs.Recorder.{grantRefusals, accepted, grantEvent, grantOf}
-use Rattle.recorder.specs.Recorder.Event.{grant}
-use Rattle.recorder.proofs.Ways.{allowed, Allowed, allowed-grant}
+use Rattle.recorder_rules.specs.declared.Recorder.{Recorder}
+use Rattle.recorder_rules.specs.Recorder.{grantRefusals, accepted, grantEvent, grantOf}
+use Rattle.recorder_rules.specs.Recorder.Event.{grant}
+use Rattle.recorder_rules.proofs.Ways.{allowed, Allowed, allowed-grant}
 use Rattle.recorder.proofs.Walked.{bounded, by-advance}
 use Rattle.recorder.proofs.grant.Statement.{statement}
 use Rattle.recorder.proofs.grant.Tie as tie

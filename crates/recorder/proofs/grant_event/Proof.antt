@@ -1,6 +1,6 @@
 -- `recorder::grant_event` meets its contract. Assumes nothing.
 use borrow.Author.Needs.{needs}
-use Rattle.recorder.specs.Recorder.{grantEvent}
+use Rattle.recorder_rules.specs.Recorder.{grantEvent}
 use Rattle.recorder.proofs.grant_event.Statement.{statement}
 use Rattle.recorder.proofs.grant_event.Tie as tie
 

@@ -9,7 +9,7 @@ use Rattle.words.specs.Lists.{every}
 use Rattle.words.specs.Said.{Refusal, first, _when_}
 use Rattle.words.proofs.Gathered.{first-refused, first-passed}
 use Rattle.settings.specs.Settings.{n}
-use Rattle.recorder.specs.Recorder.{isZero, stepRefusals}
+use Rattle.recorder_rules.specs.Recorder.{isZero, stepRefusals}
 use Rattle.recorder.proofs.grant_refusal.Statement.{statement}
 use Rattle.recorder.proofs.grant_refusal.Tie as tie
 

@@ -7,7 +7,7 @@ use mathlib.Core.Bool.{_&&_}
 use lib.ListN.{drop}
 use Rattle.words.specs.Lists.{every}
 use Rattle.words.proofs.Walks.{every-more, every-done}
-use Rattle.recorder.specs.Recorder.{isZero}
+use Rattle.recorder_rules.specs.Recorder.{isZero}
 use Rattle.recorder.proofs.grants_unused.Statement.{statement}
 use Rattle.recorder.proofs.grants_unused.Tie as tie
 

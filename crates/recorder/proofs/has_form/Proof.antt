@@ -3,7 +3,7 @@ use Prim.Native.Nat.{_≤_}
 use native.Mathlib.Omega.{arith}
 use mathlib.Core.Path.{sym}
 use borrow.Author.Needs.{needs}
-use Rattle.recorder.specs.Recorder.{openLeases}
+use Rattle.recorder_rules.specs.Recorder.{openLeases}
 use Rattle.recorder.proofs.Coded.{as-coded, too-many}
 use Rattle.recorder.proofs.has_form.Statement.{statement}
 use Rattle.recorder.proofs.has_form.Tie as tie

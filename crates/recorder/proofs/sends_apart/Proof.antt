@@ -7,7 +7,7 @@ use mathlib.Core.Bool.{_&&_}
 use lib.ListN.{take, drop, length-take}
 use lib.Seq.{getD-take}
 use borrow.Author.Needs.{needs}
-use Rattle.recorder.specs.Recorder.{spaced}
+use Rattle.recorder_rules.specs.Recorder.{spaced}
 use Rattle.recorder.proofs.Leases.{spaced-more, spaced-done}
 use Rattle.recorder.proofs.sends_apart.Statement.{statement}
 use Rattle.recorder.proofs.sends_apart.Tie as tie

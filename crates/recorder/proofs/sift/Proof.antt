@@ -12,7 +12,7 @@ use lib.Seq.{getD-take, length-take-le, take-all}
 use borrow.Author.Tests.{le-leb, lt-leb}
 use borrow.Author.Needs.{needs}
 use Rattle.settings.specs.Settings.{P}
-use Rattle.recorder.specs.Recorder.{lacking, lackingFrom, kept, placed, oldest, leases}
+use Rattle.recorder_rules.specs.Recorder.{lacking, lackingFrom, kept, placed, oldest, leases}
 use Rattle.recorder.proofs.Leases.{lacking-ended, lacking-kept, lacking-done, kept-ended, kept-young, placed-push}
 use Rattle.recorder.proofs.Places.{sized}
 use Rattle.recorder.proofs.sift.Statement.{statement}

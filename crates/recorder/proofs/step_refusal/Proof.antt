@@ -8,7 +8,7 @@ use Rattle.words.specs.Said.{Refusal, first, _when_}
 use Rattle.words.proofs.Gathered.{first-refused, first-passed}
 use Rattle.settings.specs.Settings.{refusals, refusalOf}
 use Rattle.messages.specs.Outcomes.{badReading}
-use Rattle.recorder.specs.Recorder.{lastReading, hasForm}
+use Rattle.recorder_rules.specs.Recorder.{lastReading, hasForm}
 use Rattle.recorder.proofs.step_refusal.Statement.{statement}
 use Rattle.recorder.proofs.step_refusal.Tie as tie
 

@@ -6,11 +6,11 @@ use Rattle.words.specs.Said.{Refusal, first}
 use Rattle.messages.specs.Answers.{said}
 use Rattle.messages.specs.Outcomes.{Outcome}
 use Rattle.messages.proofs.Outcomes.{is-refused}
-use Rattle.recorder.specs.declared.Recorder.{Recorder}
-use Rattle.recorder.specs.Recorder.{stepRefusals, accepted, tickEvent, tickOf}
-use Rattle.recorder.specs.Recorder.Event.{tick}
+use Rattle.recorder_rules.specs.declared.Recorder.{Recorder}
+use Rattle.recorder_rules.specs.Recorder.{stepRefusals, accepted, tickEvent, tickOf}
+use Rattle.recorder_rules.specs.Recorder.Event.{tick}
 use Rattle.recorder.specs.declared.Advanced.{Advanced}
-use Rattle.recorder.proofs.Ways.{allowed, Allowed}
+use Rattle.recorder_rules.proofs.Ways.{allowed, Allowed}
 use Rattle.recorder.proofs.Walked.{bounded, by-advance, goes-on, roomy}
 use Rattle.recorder.proofs.Places.{sized}
 use Rattle.recorder.proofs.tick.Statement.{statement}

@@ -5,7 +5,7 @@ use mathlib.Core.Path.{_≡_}
 use mathlib.Core.Bool.{true}
 use borrow.Author.Needs.{needs}
 use Rattle.messages.specs.Answers.{said}
-use Rattle.recorder.specs.Recorder.{due, openLeases, leases, tickEvent}
+use Rattle.recorder_rules.specs.Recorder.{due, openLeases, leases, tickEvent}
 use Rattle.recorder.proofs.Leases.{placed-push}
 use Rattle.recorder.proofs.tick_event.Statement.{statement}
 use Rattle.recorder.proofs.tick_event.Tie as tie

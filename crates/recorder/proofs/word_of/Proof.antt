@@ -1,7 +1,7 @@
 -- `recorder::word_of` meets its contract. Assumes nothing.
 use borrow.Author.Needs.{needs}
 use Rattle.messages.specs.Answers.{said}
-use Rattle.recorder.specs.Recorder.{registered, standing}
+use Rattle.recorder_rules.specs.Recorder.{registered, standing}
 use Rattle.recorder.proofs.word_of.Statement.{statement}
 use Rattle.recorder.proofs.word_of.Tie as tie
 

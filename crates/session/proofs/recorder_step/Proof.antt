@@ -1,5 +1,5 @@
 -- Each step is the party's own. Assumes nothing.
-use Rattle.recorder.specs.Recorder.{stepOf as recorderOf}
+use Rattle.recorder_rules.specs.Recorder.{stepOf as recorderOf}
 use borrow.Author.Needs.{needs}
 use Rattle.session.proofs.recorder_step.Statement.{statement}
 use Rattle.session.proofs.recorder_step.Tie as tie

@@ -19,18 +19,18 @@ use Rattle.messages.specs.declared.Message.the-variants.{LeaseRequest}
 use Rattle.messages.specs.Answers.{Spoken, sends as sending, refuses, says}
 use Rattle.messages.specs.Outcomes.{Outcome, _leaving_}
 use Rattle.messages.proofs.Outcomes.{same-word}
-use Rattle.recorder.specs.declared.Recorder.{Recorder}
-use Rattle.recorder.specs.Recorder.{lastSend, lastReading, leases, oldest, granted, kept, lacking, advanced, due, requesting, higher, registered, standing, tickEvent, grantEvent, driveEvent, stepOf, Event}
-use Rattle.recorder.specs.Recorder.Event.{tick, grant, drive}
-use Rattle.recorder.specs.Claims.{Sized}
-use Rattle.recorder.proofs.Formed.{Formed, has-form}
-use Rattle.recorder.proofs.Spacing.{spaced-at, ended, kept-length, kept-newest, ended-first}
-use Rattle.recorder.proofs.Room.{leases-length, leases-last, room-advanced}
-use Rattle.recorder.proofs.Placing.{placed-back}
-use Rattle.recorder.proofs.Grants.{after-store}
-use Rattle.recorder.proofs.Lacking.{ended-granted}
-use Rattle.recorder.proofs.Ways.{refusalsOf, eventOf, Passes, Allowed, allowed, each-way}
-use Rattle.recorder.proofs.Keeping.{Good, step-good, advanced-formed, advanced-sized, leases-requesting}
+use Rattle.recorder_rules.specs.declared.Recorder.{Recorder}
+use Rattle.recorder_rules.specs.Recorder.{lastSend, lastReading, leases, oldest, granted, kept, lacking, advanced, due, requesting, higher, registered, standing, tickEvent, grantEvent, driveEvent, stepOf, Event}
+use Rattle.recorder_rules.specs.Recorder.Event.{tick, grant, drive}
+use Rattle.recorder_rules.specs.Claims.{Sized}
+use Rattle.recorder_rules.proofs.Formed.{Formed, has-form}
+use Rattle.recorder_rules.proofs.Spacing.{spaced-at, ended, kept-length, kept-newest, ended-first}
+use Rattle.recorder_rules.proofs.Room.{leases-length, leases-last, room-advanced}
+use Rattle.recorder_rules.proofs.Placing.{placed-back}
+use Rattle.recorder_rules.proofs.Grants.{after-store}
+use Rattle.recorder_rules.proofs.Lacking.{ended-granted}
+use Rattle.recorder_rules.proofs.Ways.{refusalsOf, eventOf, Passes, Allowed, allowed, each-way}
+use Rattle.recorder_rules.proofs.Keeping.{Good, step-good, advanced-formed, advanced-sized, leases-requesting}
 
 -- a step that goes on to its event
 pub record Going (s : Settings) (rec : Recorder) (r : ℕ) (event : Event) : Type 0 where

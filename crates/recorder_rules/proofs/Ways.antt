@@ -17,10 +17,10 @@ use Rattle.messages.specs.Messages.{topReading}
 use Rattle.messages.specs.Answers.{refuses, says}
 use Rattle.messages.specs.Outcomes.{Outcome, _leaving_}
 use Rattle.messages.proofs.Outcomes.{either-way, both-pass}
-use Rattle.recorder.specs.declared.Recorder.{Recorder}
-use Rattle.recorder.specs.Recorder.{lastReading, isZero, stepRefusals, grantRefusals, lacking, advanced, halted, accepted, tickEvent, grantEvent, driveEvent, tickOf, grantOf, driveOf, stepOf, Event}
-use Rattle.recorder.specs.Recorder.Event.{tick, grant, drive}
-use Rattle.recorder.proofs.Formed.{Formed, formed, positive}
+use Rattle.recorder_rules.specs.declared.Recorder.{Recorder}
+use Rattle.recorder_rules.specs.Recorder.{lastReading, isZero, stepRefusals, grantRefusals, lacking, advanced, halted, accepted, tickEvent, grantEvent, driveEvent, tickOf, grantOf, driveOf, stepOf, Event}
+use Rattle.recorder_rules.specs.Recorder.Event.{tick, grant, drive}
+use Rattle.recorder_rules.proofs.Formed.{Formed, formed, positive}
 
 -- an event's table of refusals, and what it does once the ended leases are gone
 abbrev pub refusalsOf : Settings → Recorder → (r : ℕ) → Event → List Refusal

@@ -13,7 +13,7 @@ use Rattle.messages.specs.declared.Message.the-variants.{LeaseRequest}
 use Rattle.messages.specs.Messages.{topCounter, topReading}
 use Rattle.messages.specs.Answers.{Spoken, sends as sending, says}
 use Rattle.messages.specs.Outcomes.{Outcome, _leaving_, unlessRefused, badReading}
-use Rattle.recorder.specs.declared.Recorder.{Recorder}
+use Rattle.recorder_rules.specs.declared.Recorder.{Recorder}
 
 -- ---- Record
 

@@ -1,7 +1,7 @@
 -- Every step leaves a record of the form. Assumes nothing.
-use Rattle.recorder.proofs.form_is_kept.Statement.{statement}
-use Rattle.recorder.proofs.form_is_kept.Tie as tie
-use Rattle.recorder.proofs.Keeping.{form-is-kept}
+use Rattle.recorder_rules.proofs.form_is_kept.Statement.{statement}
+use Rattle.recorder_rules.proofs.form_is_kept.Tie as tie
+use Rattle.recorder_rules.proofs.Keeping.{form-is-kept}
 
 returns : tie.Need-returns
 returns c = form-is-kept

@@ -8,8 +8,8 @@ use Rattle.settings.specs.declared.Settings.{Settings}
 use Rattle.settings.specs.Settings.{refusalOf}
 use Rattle.messages.specs.Messages.{topCounter}
 use Rattle.messages.specs.Answers.{refuses, says}
-use Rattle.recorder.specs.declared.Recorder.{Recorder}
-use Rattle.recorder.specs.Recorder.{hasForm, leases, openLeases, kept, Event, stepOf, fresh}
+use Rattle.recorder_rules.specs.declared.Recorder.{Recorder}
+use Rattle.recorder_rules.specs.Recorder.{hasForm, leases, openLeases, kept, Event, stepOf, fresh}
 
 -- 64 places of leases and 16 of grants, as the struct has them
 pub record Sized (rec : Recorder) : Type 0 where

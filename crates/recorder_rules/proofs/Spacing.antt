@@ -13,7 +13,7 @@ use Rattle.words.proofs.Booleans.{both-hold}
 use Rattle.words.proofs.Conditions.{holds-both, chosen}
 use Rattle.settings.specs.declared.Settings.{Settings}
 use Rattle.settings.specs.Settings.{η, P}
-use Rattle.recorder.specs.Recorder.{spaced, hasEnded, kept}
+use Rattle.recorder_rules.specs.Recorder.{spaced, hasEnded, kept}
 
 module _ (apart : ℕ) where
   spaced-rest : (x : ℕ) (xs : List ℕ) → spaced apart (x ∷ xs) ≡ true → spaced apart xs ≡ true

@@ -1,7 +1,7 @@
 -- A stopped recorder stays as it is. Assumes nothing.
-use Rattle.recorder.proofs.stopped_stays.Statement.{statement}
-use Rattle.recorder.proofs.stopped_stays.Tie as tie
-use Rattle.recorder.proofs.Staying.{stopped-stays}
+use Rattle.recorder_rules.proofs.stopped_stays.Statement.{statement}
+use Rattle.recorder_rules.proofs.stopped_stays.Tie as tie
+use Rattle.recorder_rules.proofs.Staying.{stopped-stays}
 
 returns : tie.Need-returns
 returns c = stopped-stays

@@ -14,8 +14,8 @@ use Rattle.words.proofs.Conditions.{holds-both, second-holds, holds-either, eve
 use Rattle.settings.specs.declared.Settings.{Settings}
 use Rattle.settings.specs.Settings.{n, η, P}
 use Rattle.messages.specs.Messages.{topCounter, topReading}
-use Rattle.recorder.specs.declared.Recorder.{Recorder}
-use Rattle.recorder.specs.Recorder.{lastSend, lastReading, openLeases, leases, isZero, spaced, allZero, young, form, hasForm}
+use Rattle.recorder_rules.specs.declared.Recorder.{Recorder}
+use Rattle.recorder_rules.specs.Recorder.{lastSend, lastReading, openLeases, leases, isZero, spaced, allZero, young, form, hasForm}
 
 pub record AllZero (rec : Recorder) : Type 0 where
   pub stopped : rec .stopped ≡ 0

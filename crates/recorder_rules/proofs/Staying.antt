@@ -4,11 +4,11 @@ use mathlib.Core.Path.{_≡_, refl}
 use mathlib.Core.Logic.{_⊎_, inl, inr}
 use Rattle.settings.proofs.Laws.{accepted-in-range}
 use Rattle.messages.specs.Answers.{refuses, says}
-use Rattle.recorder.specs.Recorder.{leases}
-use Rattle.recorder.specs.Claims.{StoppedStays, NewestAreKept}
-use Rattle.recorder.proofs.Formed.{formed}
-use Rattle.recorder.proofs.Spacing.{ended, kept-newest}
-use Rattle.recorder.proofs.Ways.{each-way}
+use Rattle.recorder_rules.specs.Recorder.{leases}
+use Rattle.recorder_rules.specs.Claims.{StoppedStays, NewestAreKept}
+use Rattle.recorder_rules.proofs.Formed.{formed}
+use Rattle.recorder_rules.proofs.Spacing.{ended, kept-newest}
+use Rattle.recorder_rules.proofs.Ways.{each-way}
 
 pub stopped-stays : StoppedStays
 stopped-stays s rec r event is-stopped =

@@ -12,11 +12,11 @@ use borrow.Author.Tests.{ltb-true, ltb-false, eqb-true, eqb-false, lt-leb}
 use Rattle.words.specs.Tests.{_<?_, _≤?_, _=?_}
 use Rattle.words.proofs.Conditions.{chosen}
 use Rattle.messages.specs.Outcomes.{Outcome}
-use Rattle.recorder.specs.declared.Recorder.{Recorder}
-use Rattle.recorder.specs.Recorder.{granted, higher, advanced, due, tickEvent, grantEvent, driveEvent, Event}
-use Rattle.recorder.specs.Recorder.Event.{tick, grant, drive}
-use Rattle.recorder.specs.Claims.{GrantsNeverFall}
-use Rattle.recorder.proofs.Ways.{eventOf, each-way}
+use Rattle.recorder_rules.specs.declared.Recorder.{Recorder}
+use Rattle.recorder_rules.specs.Recorder.{granted, higher, advanced, due, tickEvent, grantEvent, driveEvent, Event}
+use Rattle.recorder_rules.specs.Recorder.Event.{tick, grant, drive}
+use Rattle.recorder_rules.specs.Claims.{GrantsNeverFall}
+use Rattle.recorder_rules.proofs.Ways.{eventOf, each-way}
 
 -- whether observer x has granted a number is seen in its place
 pub granted-at : (rec : Recorder) (number x : ℕ) → 1 ≤ number → getD (granted rec number) x false ≡ (number ≤? getD (rec .grants) x 0)

@@ -14,10 +14,10 @@ use Rattle.words.proofs.Conditions.{second-holds}
 use Rattle.settings.specs.declared.Settings.{Settings}
 use Rattle.settings.specs.Settings.{η, P, refusalOf}
 use Rattle.settings.proofs.Laws.{accepted, accepted-in-range}
-use Rattle.recorder.specs.declared.Recorder.{Recorder}
-use Rattle.recorder.specs.Recorder.{lastSend, openLeases, leases, isZero, spaced, hasForm, kept, due, advanced}
-use Rattle.recorder.proofs.Formed.{Formed, formed, not-zero}
-use Rattle.recorder.proofs.Spacing.{first-to-last, kept-length, kept-young, kept-spaced, kept-last}
+use Rattle.recorder_rules.specs.declared.Recorder.{Recorder}
+use Rattle.recorder_rules.specs.Recorder.{lastSend, openLeases, leases, isZero, spaced, hasForm, kept, due, advanced}
+use Rattle.recorder_rules.proofs.Formed.{Formed, formed, not-zero}
+use Rattle.recorder_rules.proofs.Spacing.{first-to-last, kept-length, kept-young, kept-spaced, kept-last}
 
 -- young leases, the last of them sent at least η before r
 few : (s : Settings) (r : ℕ) → 1 ≤ η s → P s ≤ 64 * η s → (xs : List ℕ) → spaced (η s) xs ≡ true

@@ -5,7 +5,7 @@ use mathlib.Core.Path.{_≡_, refl, sym, ap, _∙_}
 use mathlib.Core.List.{List}
 use lib.ListN.{length, getD, take, replicate, length-append, length-replicate}
 use lib.Seq.{getD-append-add, take-append-seam}
-use Rattle.recorder.specs.Recorder.{placed}
+use Rattle.recorder_rules.specs.Recorder.{placed}
 
 pub zeros : (k i : ℕ) → getD {A = ℕ} (replicate k 0) i 0 ≡ 0
 zeros zero i = refl

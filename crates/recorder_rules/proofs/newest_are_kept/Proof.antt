@@ -1,7 +1,7 @@
 -- The leases that end are the oldest. Assumes nothing.
-use Rattle.recorder.proofs.newest_are_kept.Statement.{statement}
-use Rattle.recorder.proofs.newest_are_kept.Tie as tie
-use Rattle.recorder.proofs.Staying.{newest-are-kept}
+use Rattle.recorder_rules.proofs.newest_are_kept.Statement.{statement}
+use Rattle.recorder_rules.proofs.newest_are_kept.Tie as tie
+use Rattle.recorder_rules.proofs.Staying.{newest-are-kept}
 
 returns : tie.Need-returns
 returns c = newest-are-kept

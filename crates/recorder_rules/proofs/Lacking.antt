@@ -14,12 +14,12 @@ use Rattle.settings.specs.declared.Settings.{Settings}
 use Rattle.settings.specs.Settings.{P, refusalOf}
 use Rattle.settings.specs.Quorums.{survives}
 use Rattle.settings.proofs.Quorums.{a-survivor}
-use Rattle.recorder.specs.declared.Recorder.{Recorder}
-use Rattle.recorder.specs.Recorder.{lastSend, openLeases, leases, oldest, granted, hasEnded, kept, lackingFrom, lacking}
-use Rattle.recorder.proofs.Formed.{Formed}
-use Rattle.recorder.proofs.Spacing.{kept-some}
-use Rattle.recorder.proofs.Room.{leases-length, leases-last}
-use Rattle.recorder.proofs.Grants.{granted-at}
+use Rattle.recorder_rules.specs.declared.Recorder.{Recorder}
+use Rattle.recorder_rules.specs.Recorder.{lastSend, openLeases, leases, oldest, granted, hasEnded, kept, lackingFrom, lacking}
+use Rattle.recorder_rules.proofs.Formed.{Formed}
+use Rattle.recorder_rules.proofs.Spacing.{kept-some}
+use Rattle.recorder_rules.proofs.Room.{leases-length, leases-last}
+use Rattle.recorder_rules.proofs.Grants.{granted-at}
 
 module _ (s : Settings) (rec : Recorder) (r : ℕ) where
   granted-from : (i : ℕ) (xs : List ℕ) → lackingFrom s rec r i xs ≡ false → (k : ℕ) → k < length xs → P s ≤ r - getD xs k 0

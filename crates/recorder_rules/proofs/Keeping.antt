@@ -20,17 +20,17 @@ use Rattle.settings.proofs.Laws.{accepted-in-range}
 use Rattle.messages.specs.Answers.{Spoken}
 use Rattle.messages.specs.Outcomes.{Outcome}
 use Rattle.messages.proofs.Outcomes.{never-given}
-use Rattle.recorder.specs.declared.Recorder.{Recorder}
-use Rattle.recorder.specs.Recorder.{lastSend, lastReading, openLeases, leases, isZero, spaced, hasForm, kept, lacking, advanced, halted, due, requesting, higher, granting, tickEvent, grantEvent, driveEvent, registered, standing, stepOf, fresh, Event}
-use Rattle.recorder.specs.Recorder.Event.{tick, grant, drive}
-use Rattle.recorder.specs.Claims.{Sized, FormIsKept, PlacesSuffice}
-use Rattle.recorder.proofs.Formed.{Formed, formed, has-form, not-zero, positive}
-use Rattle.recorder.proofs.Spacing.{spaced-more, kept-length, kept-young, kept-spaced, kept-last}
-use Rattle.recorder.proofs.Room.{leases-length, leases-last, room-advanced}
-use Rattle.recorder.proofs.Placing.{zeros, placed-unused, placed-back, placed-length}
-use Rattle.recorder.proofs.Grants.{higher-below, after-store}
-use Rattle.recorder.proofs.Lacking.{none-lacks, newest-kept}
-use Rattle.recorder.proofs.Ways.{refusalsOf, eventOf, Passes, Allowed, allowed, allowed-grant, each-way}
+use Rattle.recorder_rules.specs.declared.Recorder.{Recorder}
+use Rattle.recorder_rules.specs.Recorder.{lastSend, lastReading, openLeases, leases, isZero, spaced, hasForm, kept, lacking, advanced, halted, due, requesting, higher, granting, tickEvent, grantEvent, driveEvent, registered, standing, stepOf, fresh, Event}
+use Rattle.recorder_rules.specs.Recorder.Event.{tick, grant, drive}
+use Rattle.recorder_rules.specs.Claims.{Sized, FormIsKept, PlacesSuffice}
+use Rattle.recorder_rules.proofs.Formed.{Formed, formed, has-form, not-zero, positive}
+use Rattle.recorder_rules.proofs.Spacing.{spaced-more, kept-length, kept-young, kept-spaced, kept-last}
+use Rattle.recorder_rules.proofs.Room.{leases-length, leases-last, room-advanced}
+use Rattle.recorder_rules.proofs.Placing.{zeros, placed-unused, placed-back, placed-length}
+use Rattle.recorder_rules.proofs.Grants.{higher-below, after-store}
+use Rattle.recorder_rules.proofs.Lacking.{none-lacks, newest-kept}
+use Rattle.recorder_rules.proofs.Ways.{refusalsOf, eventOf, Passes, Allowed, allowed, allowed-grant, each-way}
 
 module _ (s : Settings) (rec : Recorder) (r : ℕ) where
   reading-advanced : lastReading (advanced s rec r) ≡ r

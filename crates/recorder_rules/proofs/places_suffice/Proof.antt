@@ -1,7 +1,7 @@
 -- Counter and open leases stay within their bounds. Assumes nothing.
-use Rattle.recorder.proofs.places_suffice.Statement.{statement}
-use Rattle.recorder.proofs.places_suffice.Tie as tie
-use Rattle.recorder.proofs.Keeping.{places-suffice}
+use Rattle.recorder_rules.proofs.places_suffice.Statement.{statement}
+use Rattle.recorder_rules.proofs.places_suffice.Tie as tie
+use Rattle.recorder_rules.proofs.Keeping.{places-suffice}
 
 returns : tie.Need-returns
 returns c = places-suffice

@@ -1,0 +1,11 @@
+-- Laws of the recorder.
+pub mod Formed
+pub mod Spacing
+pub mod Room
+pub mod Ways
+pub mod Grants
+pub mod Staying
+pub mod Placing
+pub mod Lacking
+pub mod Keeping
+pub mod Steps

@@ -1,0 +1,3 @@
+-- Document 01, "Recorder".
+pub mod Recorder
+pub mod Claims
