@@ -1,8 +1,8 @@
 // The recorder's steps for C firmware, over the 680 bytes of a record. Serves document 01, "Recorder": 85 words of 8 bytes,
 // the low byte first. The header for C is include/recorder.h.
 use messages::Answer;
-use recorder_rules::Recorder;
 use recorder::Stepped;
+use recorder_rules::Recorder;
 use settings::Settings;
 use settings::refusal;
 ghost use mathlib.Core.Path.{_≡_};

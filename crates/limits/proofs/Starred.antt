@@ -7,8 +7,8 @@ use Rattle.settings.specs.Quorums.{members, closes}
 use Rattle.messages.specs.Messages.{fieldsOf, statusWord}
 use Rattle.messages.specs.Answers.{spokenFields}
 use Rattle.messages.specs.Outcomes.{unlessRefused}
-use Rattle.observer.specs.Observer as observer
-use Rattle.standby.specs.Standby as standby
+use Rattle.observer_rules.specs.Observer as observer
+use Rattle.standby_rules.specs.Standby as standby
 use Rattle.limits.specs.Limits.{rows, AsWritten}
 
 pub as-written : AsWritten

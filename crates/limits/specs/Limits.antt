@@ -15,10 +15,10 @@ use Rattle.messages.specs.declared.Status.the-variants.{Alive, Dead}
 use Rattle.messages.specs.Messages.{Field}
 use Rattle.messages.specs.Messages.Field.{word, number}
 use Rattle.messages.specs.Answers.{Spoken, spokenFields}
-use Rattle.observer.specs.declared.Observer.{Observer}
-use Rattle.observer.specs.Observer.{requestOf, cutOf, checkOf}
-use Rattle.standby.specs.declared.Standby.{Standby}
-use Rattle.standby.specs.Standby.{noPlaces, ackOf}
+use Rattle.observer_rules.specs.declared.Observer.{Observer}
+use Rattle.observer_rules.specs.Observer.{requestOf, cutOf, checkOf}
+use Rattle.standby_rules.specs.declared.Standby.{Standby}
+use Rattle.standby_rules.specs.Standby.{noPlaces, ackOf}
 
 -- A row: what is found by the definitions, and what 01 writes. Whole numbers, since a slack may be below zero, and fields of
 -- an answer's line.

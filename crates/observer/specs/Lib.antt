@@ -1,4 +1,2 @@
 -- Document 01, "Observer".
-pub mod Observer
 pub mod Outcome
-pub mod Claims

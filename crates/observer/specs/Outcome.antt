@@ -1,7 +1,7 @@
 -- What a step by value returns, in the words of document 01.
 use Rattle.messages.specs.Answers.{said}
 use Rattle.messages.specs.Outcomes.{Outcome, _leaving_}
-use Rattle.observer.specs.declared.Observer.{Observer}
+use Rattle.observer_rules.specs.declared.Observer.{Observer}
 use Rattle.observer.specs.declared.Stepped.{Stepped}
 
 abbrev pub outcome : Stepped → Outcome Observer

@@ -1,8 +1,10 @@
 // The observer: a small box that grants leases and says what it has seen. Serves document 01, "Observer". The steps take the
-// record and return it; each store is a function of its own that alters one field, so that a cut is the first of them.
+// record and return it; each store is a function of its own that alters one field, so that a cut is the first of them. What a
+// step is to do, and what every step keeps, stands in `observer_rules`.
 use messages::Answer;
 use messages::Message;
 use messages::Status;
+use observer_rules::Observer;
 use settings::Settings;
 ghost use mathlib.Core.Path.{_≡_};
 ghost use Prim.Native.Nat.{_≤_};
@@ -12,17 +14,8 @@ ghost use Rattle.settings.specs.Settings.{InRange};
 ghost use Rattle.messages.specs.Messages.{topReading};
 ghost use Rattle.messages.specs.Answers.{refuses};
 ghost use Rattle.messages.specs.Outcomes.{_leaving_};
-ghost use Rattle.observer.specs.Observer.{atReading, hasForm, sharedRefusals, requestRefusals, cutRefusals, checkRefusals, Store, store, storeAll, stores, requestOf, cutOf, statusAt, checkOf, restartOf};
+ghost use Rattle.observer_rules.specs.Observer.{atReading, hasForm, sharedRefusals, requestRefusals, cutRefusals, checkRefusals, Store, store, storeAll, stores, requestOf, cutOf, statusAt, checkOf, restartOf};
 ghost use Rattle.observer.specs.Outcome.{outcome};
-ghost use Rattle.observer.specs.Claims.{FormIsKept, LatestNeverFalls, DeadlineFirst, GrantIsStored, DeadFromDeadline};
-
-pub struct Observer {
-    // stored: the highest request granted, and until when its lease runs
-    pub latest: u64,
-    pub deadline: u64,
-    // in memory: 0 after a restart
-    pub last_reading: u64,
-}
 
 // What a step returns: its answer, and the record after it.
 pub struct Stepped {
@@ -226,24 +219,3 @@ pub fn restart(o: Observer) -> Observer
 {
     set_last_reading(o, 0)
 }
-
-// What every step keeps, whatever its event: the claims stand in specs/Claims.antt.
-pub fn form_is_kept()
-    ensures { λ _. ⌜ FormIsKept ⌝ }
-{}
-
-pub fn latest_never_falls()
-    ensures { λ _. ⌜ LatestNeverFalls ⌝ }
-{}
-
-pub fn deadline_first()
-    ensures { λ _. ⌜ DeadlineFirst ⌝ }
-{}
-
-pub fn grant_is_stored()
-    ensures { λ _. ⌜ GrantIsStored ⌝ }
-{}
-
-pub fn dead_from_deadline()
-    ensures { λ _. ⌜ DeadFromDeadline ⌝ }
-{}

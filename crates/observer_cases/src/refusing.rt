@@ -1,7 +1,7 @@
 // Refusals: each number from each side of its bound, and each two at once, of which the lower is given. A refusal leaves the
 // record as it came.
 use crate::steps;
-use observer::Observer;
+use observer_rules::Observer;
 use settings::Settings;
 
 // Settings out of range, and settings with a slack below zero.

@@ -4,8 +4,8 @@ use libc::STDOUT_FILENO;
 use messages::Answer;
 use messages::Message;
 use messages::Status;
-use observer::Observer;
 use observer::Stepped;
+use observer_rules::Observer;
 
 pub fn text(bytes: &[u8]) {
     io::write_all(STDOUT_FILENO, bytes);

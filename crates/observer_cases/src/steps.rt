@@ -1,6 +1,6 @@
 // Each step twice: by value, and on a record that is lent. 01's own settings, unless a case hands in others.
 use crate::show;
-use observer::Observer;
+use observer_rules::Observer;
 use settings::Settings;
 
 // n, t, P and O; η, Δ and G are those of 01's own settings.

@@ -10,12 +10,12 @@ use Rattle.messages.specs.declared.Answer.{Answer}
 use Rattle.messages.specs.declared.Message.the-variants.{LeaseGrant}
 use Rattle.messages.specs.Answers.{said, sends, says}
 use Rattle.messages.specs.Outcomes.{Outcome, _leaving_}
-use Rattle.observer.specs.declared.Observer.{Observer}
+use Rattle.observer_rules.specs.declared.Observer.{Observer}
 use Rattle.observer.specs.declared.Stepped.{Stepped}
-use Rattle.observer.specs.Observer.{requestRefusals, cutRefusals, checkRefusals, requestOf, cutOf, checkOf, Event, stepOf}
-use Rattle.observer.specs.Observer.Event.{request, cut, check}
+use Rattle.observer_rules.specs.Observer.{requestRefusals, cutRefusals, checkRefusals, requestOf, cutOf, checkOf, Event, stepOf}
+use Rattle.observer_rules.specs.Observer.Event.{request, cut, check}
 use Rattle.observer.specs.Outcome.{outcome}
-use Rattle.observer.proofs.Refusals.{refused-or-done}
+use Rattle.observer_rules.proofs.Refusals.{refused-or-done}
 use Rattle.observer_lent.specs.Left.{refused, left}
 
 pub refusal-keeps : (s : Settings) (o : Observer) (x r : ℕ) (event : Event) → refused (stepOf s o x r event .answer) ≡ true

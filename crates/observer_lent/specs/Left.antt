@@ -5,7 +5,7 @@ use Rattle.words.specs.Tests.{if_then_else_}
 use Rattle.words.specs.Said.{Said}
 use Rattle.words.specs.Said.Said.{refusal, gives}
 use Rattle.messages.specs.Answers.{Spoken, said}
-use Rattle.observer.specs.declared.Observer.{Observer}
+use Rattle.observer_rules.specs.declared.Observer.{Observer}
 use Rattle.observer.specs.declared.Stepped.{Stepped}
 
 unfoldable pub refused : Said Spoken → Bool

@@ -2,13 +2,13 @@
 // "An observer's record is lent to the step and altered there, field by field, deadline first". Each store is a function that
 // alters one field of the lent record.
 use messages::Answer;
-use observer::Observer;
 use observer::Stepped;
+use observer_rules::Observer;
 use settings::Settings;
 ghost use mathlib.Core.Path.{_≡_};
 ghost use Rattle.messages.specs.Answers.{said};
 ghost use Rattle.messages.specs.Outcomes.{_leaving_};
-ghost use Rattle.observer.specs.Observer.{Store, store, atReading, requestOf, cutOf, checkOf};
+ghost use Rattle.observer_rules.specs.Observer.{Store, store, atReading, requestOf, cutOf, checkOf};
 ghost use Rattle.observer.specs.Outcome.{outcome};
 ghost use Rattle.observer_lent.specs.Left.{refused, left};
 

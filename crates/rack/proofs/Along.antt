@@ -28,12 +28,12 @@ use Rattle.recorder_rules.proofs.Grants.{granted-at}
 use Rattle.recorder_rules.proofs.Ways.{eventOf, each-way}
 use Rattle.recorder_rules.proofs.Keeping.{form-is-kept}
 use Rattle.recorder_rules.proofs.Formed.{formed}
-use Rattle.observer.specs.declared.Observer.{Observer}
-use Rattle.observer.specs.Observer.{Event as ObserverEvent, stepOf as observerStep, requestRefusals, cutRefusals, checkRefusals, requestOf, cutOf, checkOf}
-use Rattle.observer.specs.Observer.Event.{request, cut, check}
-use Rattle.observer.proofs.Laws.{form-is-kept as observer-form}
-use Rattle.standby.specs.Standby.{Event as StandbyEvent, stepWithin, noPlaces}
-use Rattle.standby.proofs.Forms.{form-is-kept as standby-form}
+use Rattle.observer_rules.specs.declared.Observer.{Observer}
+use Rattle.observer_rules.specs.Observer.{Event as ObserverEvent, stepOf as observerStep, requestRefusals, cutRefusals, checkRefusals, requestOf, cutOf, checkOf}
+use Rattle.observer_rules.specs.Observer.Event.{request, cut, check}
+use Rattle.observer_rules.proofs.Laws.{form-is-kept as observer-form}
+use Rattle.standby_rules.specs.Standby.{Event as StandbyEvent, stepWithin, noPlaces}
+use Rattle.standby_rules.proofs.Forms.{form-is-kept as standby-form}
 use Rattle.rack.specs.Clocks.{Clocks, reads}
 use Rattle.rack.specs.Runs.{Rules, oursWithin, Event, time, partyKey, perform, inTime, Reading, readingsAt, rising, onClock, delivered, stateAfter, answerTo, isRun}
 use Rattle.rack.specs.Runs.Event.{atRecorder, atObserver, atStandby, crash}

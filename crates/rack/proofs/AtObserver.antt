@@ -18,10 +18,10 @@ use Rattle.messages.specs.declared.Message.{Message}
 use Rattle.messages.specs.declared.Message.the-variants.{LeaseRequest, LeaseGrant, Check, CheckAck}
 use Rattle.messages.specs.Answers.{Spoken, sends}
 use Rattle.messages.specs.Outcomes.{Outcome}
-use Rattle.observer.specs.declared.Observer.{Observer}
-use Rattle.observer.specs.Observer.{Event, stepOf, statusAt, restartOf, hasForm}
-use Rattle.observer.specs.Observer.Event.{request, cut, check}
-use Rattle.observer.proofs.Laws.{dead-from-deadline, form-is-kept}
+use Rattle.observer_rules.specs.declared.Observer.{Observer}
+use Rattle.observer_rules.specs.Observer.{Event, stepOf, statusAt, restartOf, hasForm}
+use Rattle.observer_rules.specs.Observer.Event.{request, cut, check}
+use Rattle.observer_rules.proofs.Laws.{dead-from-deadline, form-is-kept}
 use Rattle.rack.specs.Clocks.{Clocks}
 use Rattle.rack.specs.Runs.{State, partyKey, put, posted, delivered, wasSent}
 use Rattle.rack.specs.Runs.Event.{atObserver}

@@ -20,14 +20,14 @@ use Rattle.messages.specs.declared.Message.{Message}
 use Rattle.messages.specs.declared.Message.the-variants.{Check, CheckAck}
 use Rattle.messages.specs.Answers.{Spoken, sends, says, saysOf}
 use Rattle.messages.specs.Outcomes.{Outcome, _leaving_}
-use Rattle.standby.specs.declared.Place.{Place}
-use Rattle.standby.specs.declared.Standby.{Standby}
-use Rattle.standby.specs.Standby.{Event, stepWithin, closed, unused, noPlaces, keptMarks, keeping, afterKeeping, verdict, greatest, saysDead, lastReading}
-use Rattle.standby.specs.Standby.Event.{ack}
-use Rattle.standby.specs.Claims.{Kept}
-use Rattle.standby.proofs.Forms.{form-is-kept}
-use Rattle.standby.proofs.Verdicts.{verdicts-hold}
-use Rattle.standby.proofs.Rounds.{dead-in-window}
+use Rattle.standby_rules.specs.declared.Place.{Place}
+use Rattle.standby_rules.specs.declared.Standby.{Standby}
+use Rattle.standby_rules.specs.Standby.{Event, stepWithin, closed, unused, noPlaces, keptMarks, keeping, afterKeeping, verdict, greatest, saysDead, lastReading}
+use Rattle.standby_rules.specs.Standby.Event.{ack}
+use Rattle.standby_rules.specs.Claims.{Kept}
+use Rattle.standby_rules.proofs.Forms.{form-is-kept}
+use Rattle.standby_rules.proofs.Verdicts.{verdicts-hold}
+use Rattle.standby_rules.proofs.Rounds.{dead-in-window}
 use Rattle.rack.specs.Clocks.{Clocks}
 use Rattle.rack.specs.Runs.{State, partyKey, posted, delivered, wasSent}
 use Rattle.rack.specs.Runs.Event.{atStandby}

@@ -23,12 +23,12 @@ use Rattle.messages.specs.Messages.{topReading}
 use Rattle.messages.specs.Answers.{Spoken, saysOf}
 use Rattle.messages.specs.Answers.Spoken.{message, wordWith}
 use Rattle.recorder_rules.specs.Recorder.{registered}
-use Rattle.observer.specs.Observer.Event.{request, cut, check}
-use Rattle.standby.specs.declared.Place.{Place}
-use Rattle.standby.specs.Standby.{keptMarks, keeping, verdict, greatest, unused, noPlaces}
-use Rattle.standby.specs.Standby.Event.{begin, ack}
-use Rattle.standby.specs.Claims.{Kept}
-use Rattle.standby.proofs.Verdicts.{verdicts-hold}
+use Rattle.observer_rules.specs.Observer.Event.{request, cut, check}
+use Rattle.standby_rules.specs.declared.Place.{Place}
+use Rattle.standby_rules.specs.Standby.{keptMarks, keeping, verdict, greatest, unused, noPlaces}
+use Rattle.standby_rules.specs.Standby.Event.{begin, ack}
+use Rattle.standby_rules.specs.Claims.{Kept}
+use Rattle.standby_rules.proofs.Verdicts.{verdicts-hold}
 use Rattle.rack.specs.Clocks.{Clocks, reads}
 use Rattle.rack.specs.Runs.{ours, Event, time, Sent, Party, messageKey, sameNumbers, wasSent, posted, perform, onClock, delivered, stateAfter, answerTo, isRun}
 use Rattle.rack.specs.Runs.Event.{atRecorder, atObserver, atStandby, crash}

@@ -24,13 +24,13 @@ use Rattle.messages.specs.Messages.{topReading, topCounter}
 use Rattle.messages.specs.Answers.{says, saysOf}
 use Rattle.messages.specs.Outcomes.{Outcome, _leaving_, badReading}
 use Rattle.messages.proofs.Outcomes.{not-refused}
-use Rattle.standby.specs.declared.Place.{Place}
-use Rattle.standby.specs.declared.Standby.{Standby}
-use Rattle.standby.specs.Standby.{Event as StandbyEvent, stepWithin, ackWithin, ackRefusals, hasForm, isOpen, lastReading, closed, unused, noPlaces, keptMarks, keeping, afterKeeping, atReading, verdict, greatest, saysDead}
-use Rattle.standby.specs.Standby.Event.{begin, ack, poll}
-use Rattle.standby.specs.Claims.{Kept}
-use Rattle.standby.proofs.Forms.{form-says, form-is-kept}
-use Rattle.standby.proofs.Rounds.{kept-stays}
+use Rattle.standby_rules.specs.declared.Place.{Place}
+use Rattle.standby_rules.specs.declared.Standby.{Standby}
+use Rattle.standby_rules.specs.Standby.{Event as StandbyEvent, stepWithin, ackWithin, ackRefusals, hasForm, isOpen, lastReading, closed, unused, noPlaces, keptMarks, keeping, afterKeeping, atReading, verdict, greatest, saysDead}
+use Rattle.standby_rules.specs.Standby.Event.{begin, ack, poll}
+use Rattle.standby_rules.specs.Claims.{Kept}
+use Rattle.standby_rules.proofs.Forms.{form-says, form-is-kept}
+use Rattle.standby_rules.proofs.Rounds.{kept-stays}
 use Rattle.rack.specs.Clocks.{Clocks, reads}
 use Rattle.rack.specs.Runs.{ours, Event, time, inTime, delivered, onClock, perform, stateAfter, answerTo, isRun}
 use Rattle.rack.specs.Runs.Event.{atRecorder, atObserver, atStandby, crash}

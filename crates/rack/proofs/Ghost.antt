@@ -15,7 +15,7 @@ use Rattle.messages.specs.declared.Status.{Status}
 use Rattle.messages.specs.declared.Status.the-variants.{Alive, Dead}
 use Rattle.messages.specs.declared.Message.{Message}
 use Rattle.messages.specs.declared.Message.the-variants.{LeaseRequest, LeaseGrant, Check, CheckAck}
-use Rattle.observer.specs.declared.Observer.{Observer}
+use Rattle.observer_rules.specs.declared.Observer.{Observer}
 use Rattle.rack.specs.Clocks.{Clocks}
 use Rattle.rack.specs.Runs.{Party, Sent}
 use Rattle.rack.specs.Runs.Party.{recorder, standby, observer}

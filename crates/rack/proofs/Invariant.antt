@@ -14,12 +14,12 @@ use Rattle.recorder_rules.specs.declared.Recorder.{Recorder}
 use Rattle.recorder_rules.specs.Recorder.{lastReading as lastOfRecorder, oldest}
 use Rattle.recorder_rules.proofs.Keeping.{Good}
 use Rattle.recorder_rules.proofs.Steps.{IsOpen, sentAt}
-use Rattle.observer.specs.declared.Observer.{Observer}
-use Rattle.observer.specs.Observer.{hasForm as observerHasForm}
-use Rattle.standby.specs.declared.Place.{Place}
-use Rattle.standby.specs.declared.Standby.{Standby}
-use Rattle.standby.specs.Standby.{hasForm as standbyHasForm, lastReading as lastOfStandby, unused}
-use Rattle.standby.specs.Claims.{Kept}
+use Rattle.observer_rules.specs.declared.Observer.{Observer}
+use Rattle.observer_rules.specs.Observer.{hasForm as observerHasForm}
+use Rattle.standby_rules.specs.declared.Place.{Place}
+use Rattle.standby_rules.specs.declared.Standby.{Standby}
+use Rattle.standby_rules.specs.Standby.{hasForm as standbyHasForm, lastReading as lastOfStandby, unused}
+use Rattle.standby_rules.specs.Claims.{Kept}
 use Rattle.rack.specs.Clocks.{Clocks}
 use Rattle.rack.specs.Runs.{State, Sent, partyKey}
 use Rattle.rack.specs.Runs.Party.{recorder, standby, observer}

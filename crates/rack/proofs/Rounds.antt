@@ -27,12 +27,12 @@ use Rattle.recorder_rules.specs.declared.Recorder.{Recorder}
 use Rattle.recorder_rules.specs.Recorder.{Event as RecorderEvent, stepOf as recorderStep, advanced, due, requesting, granting, registered, standing, tickEvent, grantEvent, driveEvent}
 use Rattle.recorder_rules.specs.Recorder.Event.{tick, grant, drive}
 use Rattle.recorder_rules.proofs.Ways.{eventOf, each-way}
-use Rattle.observer.specs.declared.Observer.{Observer}
-use Rattle.observer.specs.Observer.{Event as ObserverEvent, stepOf as observerStep, requestRefusals, cutRefusals, checkRefusals, requestOf, cutOf, checkOf}
-use Rattle.observer.specs.Observer.Event.{request, cut, check}
-use Rattle.standby.specs.declared.Standby.{Standby}
-use Rattle.standby.specs.Standby.{Event as StandbyEvent, stepWithin, beginOf, beginRefusals, hasForm, isOpen, lastReading, noPlaces, closed, keptMarks, keeping, afterKeeping, verdict}
-use Rattle.standby.specs.Standby.Event.{begin, ack, poll}
+use Rattle.observer_rules.specs.declared.Observer.{Observer}
+use Rattle.observer_rules.specs.Observer.{Event as ObserverEvent, stepOf as observerStep, requestRefusals, cutRefusals, checkRefusals, requestOf, cutOf, checkOf}
+use Rattle.observer_rules.specs.Observer.Event.{request, cut, check}
+use Rattle.standby_rules.specs.declared.Standby.{Standby}
+use Rattle.standby_rules.specs.Standby.{Event as StandbyEvent, stepWithin, beginOf, beginRefusals, hasForm, isOpen, lastReading, noPlaces, closed, keptMarks, keeping, afterKeeping, verdict}
+use Rattle.standby_rules.specs.Standby.Event.{begin, ack, poll}
 use Rattle.rack.specs.Clocks.{Clocks, reads}
 use Rattle.rack.specs.Runs.{Rules, oursWithin, Event, partyKey, readingsAt, perform, onClock, stateAfter, answerTo}
 use Rattle.rack.specs.Runs.Event.{atRecorder, atObserver, atStandby, crash}

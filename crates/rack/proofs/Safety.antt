@@ -21,8 +21,8 @@ use Rattle.recorder_rules.specs.Recorder.Event.{drive}
 use Rattle.recorder_rules.specs.Claims.{Sized}
 use Rattle.recorder_rules.proofs.Steps.{Going, IsOpen, running-after, reading-after, sent-young}
 use Rattle.recorder_rules.proofs.Ways.{each-way}
-use Rattle.standby.specs.Standby.{noPlaces}
-use Rattle.standby.proofs.Verdicts.{says-other}
+use Rattle.standby_rules.specs.Standby.{noPlaces}
+use Rattle.standby_rules.proofs.Verdicts.{says-other}
 use Rattle.rack.specs.Clocks.{Clocks, reads}
 use Rattle.rack.specs.Runs.{oursWithin, Event, State, time, onClock, perform, stateAfter, answerTo, isRun}
 use Rattle.rack.specs.Runs.Event.{atRecorder}

@@ -14,10 +14,10 @@ use Rattle.messages.specs.declared.Status.the-variants.{Alive, Dead}
 use Rattle.messages.specs.Answers.{saysOf}
 use Rattle.messages.specs.Outcomes.{unlessRefused}
 use Rattle.recorder_rules.specs.Recorder as recorder
-use Rattle.observer.specs.Observer as observer
-use Rattle.standby.specs.Standby as standby
-use Rattle.standby.specs.Standby.Event.{ack}
-use Rattle.standby.proofs.Verdicts.{says-other}
+use Rattle.observer_rules.specs.Observer as observer
+use Rattle.standby_rules.specs.Standby as standby
+use Rattle.standby_rules.specs.Standby.Event.{ack}
+use Rattle.standby_rules.proofs.Verdicts.{says-other}
 use Rattle.rack.specs.Clocks.{reads}
 use Rattle.rack.specs.Runs.{ours, Event, time, partyKey, statusKey, messageKey, sameNumbers, wasSent, put, posted, perform, inTime, readingsAt, rising, onClock, delivered, stateAfter, answerTo, isRun}
 use Rattle.rack.specs.Runs.Event.{atStandby}

@@ -21,14 +21,14 @@ use Rattle.messages.specs.Answers.{Spoken, refuses, sends, says}
 use Rattle.messages.specs.Answers.Spoken.{message, wordWith}
 use Rattle.messages.specs.Outcomes.{Outcome, _leaving_}
 use Rattle.messages.proofs.Outcomes.{either-way}
-use Rattle.observer.specs.declared.Observer.{Observer}
-use Rattle.observer.specs.Observer as observer
-use Rattle.observer.specs.Observer.{Event as ObserverEvent}
-use Rattle.observer.specs.Observer.Event.{request, cut, check}
-use Rattle.standby.specs.declared.Standby.{Standby}
-use Rattle.standby.specs.Standby as standby
-use Rattle.standby.specs.Standby.{Event as StandbyEvent}
-use Rattle.standby.specs.Standby.Event.{begin, ack, poll}
+use Rattle.observer_rules.specs.declared.Observer.{Observer}
+use Rattle.observer_rules.specs.Observer as observer
+use Rattle.observer_rules.specs.Observer.{Event as ObserverEvent}
+use Rattle.observer_rules.specs.Observer.Event.{request, cut, check}
+use Rattle.standby_rules.specs.declared.Standby.{Standby}
+use Rattle.standby_rules.specs.Standby as standby
+use Rattle.standby_rules.specs.Standby.{Event as StandbyEvent}
+use Rattle.standby_rules.specs.Standby.Event.{begin, ack, poll}
 
 -- a word is no message
 pub no-message : {A : Type 0} {v : List ℕ} {values : List ℕ} {m : Message} → gives (wordWith v values) ≡ gives (message m) → A

@@ -16,8 +16,8 @@ use Rattle.messages.specs.declared.Message.the-variants.{LeaseRequest, LeaseGra
 use Rattle.messages.specs.Answers.{Spoken, refuses, says, saysOf}
 use Rattle.recorder_rules.specs.Recorder.{Event as RecorderEvent, registered}
 use Rattle.recorder_rules.specs.Recorder.Event.{drive}
-use Rattle.observer.specs.Observer.Event.{request, cut, check}
-use Rattle.standby.specs.Standby.Event.{begin, ack, poll}
+use Rattle.observer_rules.specs.Observer.Event.{request, cut, check}
+use Rattle.standby_rules.specs.Standby.Event.{begin, ack, poll}
 use Rattle.rack.specs.Clocks.{Clocks}
 use Rattle.rack.specs.Runs.{Rules, oursWithin, ours, Event, time, Sent, messageKey, sameNumbers, stateAfter, answerTo, isRun}
 use Rattle.rack.specs.Runs.Event.{atRecorder, atObserver, atStandby, crash}

@@ -21,12 +21,12 @@ use Rattle.messages.specs.Outcomes.{Outcome}
 use Rattle.recorder_rules.specs.declared.Recorder.{Recorder}
 use Rattle.recorder_rules.specs.Recorder.{Event as RecorderEvent, stepOf as recorderStep, fresh as freshRecorder}
 use Rattle.recorder_rules.specs.Recorder.Event.{tick, grant, drive}
-use Rattle.observer.specs.declared.Observer.{Observer}
-use Rattle.observer.specs.Observer.{Event as ObserverEvent, stepOf as observerStep, restartOf, fresh as freshObserver}
-use Rattle.observer.specs.Observer.Event.{request, cut, check}
-use Rattle.standby.specs.declared.Standby.{Standby}
-use Rattle.standby.specs.Standby.{Event as StandbyEvent, stepWithin, fresh as freshStandby}
-use Rattle.standby.specs.Standby.Event.{begin, ack, poll}
+use Rattle.observer_rules.specs.declared.Observer.{Observer}
+use Rattle.observer_rules.specs.Observer.{Event as ObserverEvent, stepOf as observerStep, restartOf, fresh as freshObserver}
+use Rattle.observer_rules.specs.Observer.Event.{request, cut, check}
+use Rattle.standby_rules.specs.declared.Standby.{Standby}
+use Rattle.standby_rules.specs.Standby.{Event as StandbyEvent, stepWithin, fresh as freshStandby}
+use Rattle.standby_rules.specs.Standby.Event.{begin, ack, poll}
 use Rattle.rack.specs.Clocks.{Clocks, reads}
 
 -- ---- Rules: what each party does at a step

@@ -20,15 +20,15 @@ use Rattle.recorder_rules.specs.declared.Recorder.{Recorder}
 use Rattle.recorder_rules.specs.Recorder as recorder
 use Rattle.recorder_rules.specs.Recorder.{Event as RecorderEvent}
 use Rattle.recorder_rules.specs.Recorder.Event.{tick, grant, drive}
-use Rattle.observer.specs.declared.Observer.{Observer}
-use Rattle.observer.specs.Observer as observer
-use Rattle.observer.specs.Observer.{Event as ObserverEvent}
-use Rattle.observer.specs.Observer.Event.{request, cut, check}
-use Rattle.standby.specs.declared.Place.{Place}
-use Rattle.standby.specs.declared.Standby.{Standby}
-use Rattle.standby.specs.Standby as standby
-use Rattle.standby.specs.Standby.{Event as StandbyEvent}
-use Rattle.standby.specs.Standby.Event.{begin, ack, poll}
+use Rattle.observer_rules.specs.declared.Observer.{Observer}
+use Rattle.observer_rules.specs.Observer as observer
+use Rattle.observer_rules.specs.Observer.{Event as ObserverEvent}
+use Rattle.observer_rules.specs.Observer.Event.{request, cut, check}
+use Rattle.standby_rules.specs.declared.Place.{Place}
+use Rattle.standby_rules.specs.declared.Standby.{Standby}
+use Rattle.standby_rules.specs.Standby as standby
+use Rattle.standby_rules.specs.Standby.{Event as StandbyEvent}
+use Rattle.standby_rules.specs.Standby.Event.{begin, ack, poll}
 use Rattle.rack.specs.Clocks.{Clocks}
 use Rattle.rack.specs.Runs.{Rules, oursWithin, ours}
 use Rattle.rack.specs.Runs.Event.{atRecorder, atObserver, atStandby}

@@ -15,8 +15,8 @@ use Rattle.messages.specs.declared.Status.the-variants.{Alive, Dead}
 use Rattle.messages.specs.declared.Message.the-variants.{LeaseRequest, LeaseGrant, Check, CheckAck}
 use Rattle.messages.specs.Answers.{Spoken, refuses, sends, says, saysOf}
 use Rattle.recorder_rules.specs.Recorder.Event.{tick, grant, drive}
-use Rattle.observer.specs.Observer.Event.{request, cut, check}
-use Rattle.standby.specs.Standby.Event.{begin, ack}
+use Rattle.observer_rules.specs.Observer.Event.{request, cut, check}
+use Rattle.standby_rules.specs.Standby.Event.{begin, ack}
 use Rattle.rack.specs.Clocks.{Clocks}
 use Rattle.rack.specs.Runs.{Rules, ours, Event, stateAfter, answerTo, isRun}
 use Rattle.rack.specs.Runs.Event.{atRecorder, atObserver, atStandby}

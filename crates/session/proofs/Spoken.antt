@@ -19,11 +19,11 @@ use Rattle.messages.specs.Answers.{Spoken, said}
 use Rattle.messages.specs.Outcomes.{Outcome, unlessRefused}
 use Rattle.recorder_rules.specs.declared.Recorder.{Recorder}
 use Rattle.recorder_rules.specs.Recorder as R
-use Rattle.observer.specs.declared.Observer.{Observer}
-use Rattle.observer.specs.Observer as O
-use Rattle.standby.specs.declared.Place.{Place}
-use Rattle.standby.specs.declared.Standby.{Standby}
-use Rattle.standby.specs.Standby as Q
+use Rattle.observer_rules.specs.declared.Observer.{Observer}
+use Rattle.observer_rules.specs.Observer as O
+use Rattle.standby_rules.specs.declared.Place.{Place}
+use Rattle.standby_rules.specs.declared.Standby.{Standby}
+use Rattle.standby_rules.specs.Standby as Q
 use Rattle.step_lines.specs.declared.StepLine.{StepLine}
 use Rattle.step_lines.specs.declared.StepLine.the-variants as line
 use Rattle.session.specs.declared.Session.{Session}

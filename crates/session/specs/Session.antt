@@ -8,10 +8,10 @@ use Rattle.messages.specs.Answers.{refuses}
 use Rattle.messages.specs.Outcomes.{Outcome, _leaving_}
 use Rattle.recorder_rules.specs.declared.Recorder.{Recorder}
 use Rattle.recorder_rules.specs.Recorder.{Event as RecorderEvent, tick, grant, drive, stepOf as recorderOf, fresh as freshRecorder}
-use Rattle.observer.specs.declared.Observer.{Observer}
-use Rattle.observer.specs.Observer.{Event as ObserverEvent, request, cut, check, stepOf as observerOf, fresh as freshObserver}
-use Rattle.standby.specs.declared.Standby.{Standby}
-use Rattle.standby.specs.Standby.{Event as StandbyEvent, begin, ack, poll, stepWithin, fresh as freshStandby}
+use Rattle.observer_rules.specs.declared.Observer.{Observer}
+use Rattle.observer_rules.specs.Observer.{Event as ObserverEvent, request, cut, check, stepOf as observerOf, fresh as freshObserver}
+use Rattle.standby_rules.specs.declared.Standby.{Standby}
+use Rattle.standby_rules.specs.Standby.{Event as StandbyEvent, begin, ack, poll, stepWithin, fresh as freshStandby}
 use Rattle.step_lines.specs.declared.StepLine.{StepLine}
 use Rattle.step_lines.specs.declared.StepLine.the-variants as line
 use Rattle.step_lines.specs.declared.RecorderStep.{RecorderStep}

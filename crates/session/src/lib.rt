@@ -2,11 +2,11 @@
 // Serves document 01, "Program `rackrun`". The steps are the parties' own; here is only whose record they get. A step takes and
 // gives the record of its party alone: to pass all of them through each line would cost more than the steps.
 use messages::Status;
-use observer::Observer;
+use observer_rules::Observer;
 use recorder_rules::Recorder;
 use settings::Settings;
-use standby::Place;
-use standby::Standby;
+use standby_rules::Place;
+use standby_rules::Standby;
 use step_lines::ObserverStep;
 use step_lines::RecorderStep;
 use step_lines::StandbyStep;
@@ -14,9 +14,9 @@ ghost use mathlib.Core.Path.{_≡_};
 ghost use lib.ListN.{set};
 ghost use Rattle.recorder_rules.specs.Recorder.{stepOf as recorderOf};
 ghost use Rattle.recorder.specs.Outcome.{outcome as recorderOutcome};
-ghost use Rattle.observer.specs.Observer.{stepOf as observerOf, fresh as freshObserver};
+ghost use Rattle.observer_rules.specs.Observer.{stepOf as observerOf, fresh as freshObserver};
 ghost use Rattle.observer.specs.Outcome.{outcome as observerOutcome};
-ghost use Rattle.standby.specs.Standby.{stepWithin};
+ghost use Rattle.standby_rules.specs.Standby.{stepWithin};
 ghost use Rattle.settings.specs.Settings.{window};
 ghost use Rattle.standby.specs.Outcome.{outcome as standbyOutcome};
 ghost use Rattle.session.specs.Session.{started, observerAt, ofRecorder, ofObserver, ofStandby};

@@ -5,10 +5,10 @@ use Rattle.messages.specs.Outcomes.{Outcome}
 use Rattle.recorder_rules.specs.declared.Recorder.{Recorder}
 use Rattle.recorder.specs.declared.Stepped as R
 use Rattle.recorder.specs.Outcome.{outcome as recorderOutcome}
-use Rattle.observer.specs.declared.Observer.{Observer}
+use Rattle.observer_rules.specs.declared.Observer.{Observer}
 use Rattle.observer.specs.declared.Stepped as O
 use Rattle.observer.specs.Outcome.{outcome as observerOutcome}
-use Rattle.standby.specs.declared.Standby.{Standby}
+use Rattle.standby_rules.specs.declared.Standby.{Standby}
 use Rattle.standby.specs.declared.Stepped as Q
 use Rattle.standby.specs.Outcome.{outcome as standbyOutcome}
 

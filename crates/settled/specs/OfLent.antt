@@ -7,8 +7,8 @@ use Rattle.settings.specs.declared.Settings.{Settings}
 use Rattle.messages.specs.declared.Answer.{Answer}
 use Rattle.messages.specs.Answers.{said}
 use Rattle.messages.specs.Outcomes.{Outcome, _leaving_}
-use Rattle.observer.specs.declared.Observer.{Observer}
-use Rattle.observer.specs.Observer.{requestOf, cutOf, checkOf}
+use Rattle.observer_rules.specs.declared.Observer.{Observer}
+use Rattle.observer_rules.specs.Observer.{requestOf, cutOf, checkOf}
 use Rattle.settled.specs.Settled.{Settled}
 use Rattle.observer_lent.proofs.lend_to_request as lend-to-request
 use Rattle.observer_lent.proofs.lend_to_cut as lend-to-cut

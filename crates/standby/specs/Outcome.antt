@@ -1,7 +1,7 @@
 -- A step's result as the rules speak of it: what its answer says, in 01's numbers and words, and the record.
 use Rattle.messages.specs.Answers.{said}
 use Rattle.messages.specs.Outcomes.{Outcome}
-use Rattle.standby.specs.declared.Standby.{Standby}
+use Rattle.standby_rules.specs.declared.Standby.{Standby}
 use Rattle.standby.specs.declared.Stepped.{Stepped}
 
 abbrev pub outcome : Stepped → Outcome Standby

@@ -1,11 +1,14 @@
 // The standby: it asks the observers whether the recorder is dead. Serves document 01, "Standby".
-// Each step takes settings, record and reading and returns its answer with the record; none requires anything of them.
+// Each step takes settings, record and reading and returns its answer with the record; none requires anything of them. What a
+// step is to do, and what every step keeps, stands in `standby_rules`.
 use messages::Answer;
 use messages::Message;
 use messages::Status;
 use messages::TOP_COUNTER;
 use messages::TOP_READING;
 use settings::Settings;
+use standby_rules::Place;
+use standby_rules::Standby;
 ghost use mathlib.Core.Path.{_≡_};
 ghost use mathlib.Core.Bool.{not};
 ghost use mathlib.Core.List.{[], _∷_, _++_};
@@ -16,24 +19,8 @@ ghost use Rattle.words.specs.Said.{first, _when_};
 ghost use Rattle.settings.specs.Settings.{window, refusals};
 ghost use Rattle.messages.specs.Answers.{said, says, refuses};
 ghost use Rattle.messages.specs.Outcomes.{_leaving_};
-ghost use Rattle.standby.specs.Standby.{isDead, isUnused, goodPlace, hasForm, keptMarks, noPlaces, closed, atReading, greatest, saysDead, verdict, beginRefusals, ackRefusals, pollRefusals, isLate, afterKeeping, beginOf, ackOf, pollOf};
+ghost use Rattle.standby_rules.specs.Standby.{isDead, isUnused, goodPlace, hasForm, keptMarks, noPlaces, closed, atReading, greatest, saysDead, verdict, beginRefusals, ackRefusals, pollRefusals, isLate, afterKeeping, beginOf, ackOf, pollOf};
 ghost use Rattle.standby.specs.Outcome.{outcome};
-ghost use Rattle.standby.specs.Claims.{FormIsKept, ClosedIsZero, VerdictsHold, DeadInWindow, KeptStays};
-
-// What is kept of one observer's ack; an unused place is not kept, with counter 0 and Alive.
-pub struct Place {
-    pub kept: bool,
-    pub counter: u64,
-    pub status: Status,
-}
-
-pub struct Standby {
-    pub open_flag: bool,
-    pub ts: u64,
-    pub last_reading: u64,
-    // one place an observer, by number
-    pub places: [Place; 16],
-}
 
 // What a step answers, and the record it leaves.
 pub struct Stepped {
@@ -367,24 +354,3 @@ pub fn poll(s: Settings, q: Standby, reading: u64) -> Stepped
         still_waiting(q, reading)
     }
 }
-
-// What every step keeps, and what stands behind each verdict: the claims stand in specs/Claims.antt.
-pub fn form_is_kept()
-    ensures { λ _. ⌜ FormIsKept ⌝ }
-{}
-
-pub fn closed_is_zero()
-    ensures { λ _. ⌜ ClosedIsZero ⌝ }
-{}
-
-pub fn verdicts_hold()
-    ensures { λ _. ⌜ VerdictsHold ⌝ }
-{}
-
-pub fn dead_in_window()
-    ensures { λ _. ⌜ DeadInWindow ⌝ }
-{}
-
-pub fn kept_stays()
-    ensures { λ _. ⌜ KeptStays ⌝ }
-{}

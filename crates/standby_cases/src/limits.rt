@@ -5,8 +5,8 @@ use messages::Status;
 use messages::TOP_COUNTER;
 use messages::TOP_READING;
 use settings::Settings;
-use standby::Place;
-use standby::Standby;
+use standby_rules::Place;
+use standby_rules::Standby;
 
 // The settings of 01, but for n, t and P.
 pub fn settings_of(n: u64, t: u64, p: u64) -> Settings {

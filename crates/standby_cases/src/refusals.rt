@@ -6,7 +6,7 @@ use messages::Status;
 use messages::TOP_COUNTER;
 use messages::TOP_READING;
 use settings::Settings;
-use standby::Standby;
+use standby_rules::Standby;
 
 // Is k one of the two faults of the case? 0 is none.
 fn has(k: u64, a: u64, b: u64) -> bool {

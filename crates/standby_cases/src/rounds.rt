@@ -2,7 +2,7 @@
 use crate::limits;
 use crate::show;
 use messages::Status;
-use standby::Standby;
+use standby_rules::Standby;
 
 // A round begun at 1000, with an ack of observer 1 kept. In all these cases the settings are 01's: two acks are a quorum, and
 // W is 49.

@@ -3,8 +3,8 @@
 use libc::STDOUT_FILENO;
 use messages::Answer;
 use messages::Message;
-use standby::Standby;
 use standby::Stepped;
+use standby_rules::Standby;
 
 pub fn text(bytes: &[u8]) {
     io::write_all(STDOUT_FILENO, bytes);

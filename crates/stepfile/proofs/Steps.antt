@@ -14,8 +14,8 @@ use Rattle.messages.specs.Answers.{Spoken}
 use Rattle.messages.specs.Outcomes.{Outcome}
 use Rattle.settings.specs.declared.Settings.{Settings}
 use Rattle.recorder_rules.specs.declared.Recorder as Recorder
-use Rattle.observer.specs.declared.Observer as Observer
-use Rattle.standby.specs.declared.Standby as Standby
+use Rattle.observer_rules.specs.declared.Observer as Observer
+use Rattle.standby_rules.specs.declared.Standby as Standby
 use Rattle.step_lines.specs.declared.StepLine.{StepLine}
 use Rattle.step_lines.specs.declared.StepLine.the-variants.{Recorder, Observer, Standby, Bad}
 use Rattle.step_lines.specs.Reading.{stepLine}

@@ -3,8 +3,8 @@ use mathlib.Core.Path.{_≡_, sym, _∙_}
 use borrow.Author.Needs.{needs}
 use Rattle.words.specs.Said.{first}
 use Rattle.messages.specs.Answers.{said}
-use Rattle.observer.specs.Observer.{checkRefusals, checkOf}
-use Rattle.observer.proofs.Refusals.{so-refused, is-done}
+use Rattle.observer_rules.specs.Observer.{checkRefusals, checkOf}
+use Rattle.observer_rules.proofs.Refusals.{so-refused, is-done}
 use Rattle.observer.proofs.check.Statement.{statement}
 use Rattle.observer.proofs.check.Tie as tie
 

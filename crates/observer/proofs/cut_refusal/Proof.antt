@@ -6,8 +6,8 @@ use borrow.Author.Tests.{lt-ltb, le-ltb}
 use Rattle.words.specs.Tests.{_<?_}
 use Rattle.words.specs.Said.{_when_, first}
 use Rattle.words.specs.Lists.{every}
-use Rattle.observer.specs.Observer.{requestRefusals, cutRefusals}
-use Rattle.observer.proofs.Refusals.{still-refused, passed-on}
+use Rattle.observer_rules.specs.Observer.{requestRefusals, cutRefusals}
+use Rattle.observer_rules.proofs.Refusals.{still-refused, passed-on}
 use Rattle.observer.proofs.cut_refusal.Statement.{statement}
 use Rattle.observer.proofs.cut_refusal.Tie as tie
 

@@ -4,9 +4,9 @@ use borrow.Author.Needs.{needs}
 use Rattle.words.specs.Said.{first}
 use Rattle.settings.proofs.Laws.{accepted-in-range}
 use Rattle.messages.specs.Answers.{said}
-use Rattle.observer.specs.Observer.{cutRefusals, cutOf}
-use Rattle.observer.proofs.Refusals.{so-refused, is-done}
-use Rattle.observer.proofs.Laws.{cut-accepted}
+use Rattle.observer_rules.specs.Observer.{cutRefusals, cutOf}
+use Rattle.observer_rules.proofs.Refusals.{so-refused, is-done}
+use Rattle.observer_rules.proofs.Laws.{cut-accepted}
 use Rattle.observer.proofs.cut_request.Statement.{statement}
 use Rattle.observer.proofs.cut_request.Tie as tie
 

@@ -2,7 +2,7 @@
 use mathlib.Core.Bool.{and-assoc, and-true}
 use borrow.Author.Needs.{needs}
 use Rattle.words.specs.Lists.{every}
-use Rattle.observer.specs.Observer.{form, hasForm}
+use Rattle.observer_rules.specs.Observer.{form, hasForm}
 use Rattle.observer.proofs.has_form.Statement.{statement}
 use Rattle.observer.proofs.has_form.Tie as tie
 

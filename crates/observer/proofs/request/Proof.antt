@@ -6,9 +6,9 @@ use borrow.Author.Tests.{lt-ltb, le-ltb}
 use Rattle.words.specs.Said.{first}
 use Rattle.settings.proofs.Laws.{accepted-in-range}
 use Rattle.messages.specs.Answers.{said}
-use Rattle.observer.specs.Observer.{atReading, storeAll, stores, requestRefusals, requestOf}
-use Rattle.observer.proofs.Refusals.{so-refused, is-done}
-use Rattle.observer.proofs.Laws.{request-accepted, all-of-them}
+use Rattle.observer_rules.specs.Observer.{atReading, storeAll, stores, requestRefusals, requestOf}
+use Rattle.observer_rules.proofs.Refusals.{so-refused, is-done}
+use Rattle.observer_rules.proofs.Laws.{request-accepted, all-of-them}
 use Rattle.observer.proofs.request.Statement.{statement}
 use Rattle.observer.proofs.request.Tie as tie
 

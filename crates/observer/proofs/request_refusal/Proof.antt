@@ -8,8 +8,8 @@ use Rattle.words.specs.Said.{_when_, first}
 use Rattle.words.specs.Lists.{every}
 use Rattle.messages.specs.Messages.{topCounter}
 use Rattle.messages.specs.Outcomes.{badReading}
-use Rattle.observer.specs.Observer.{lastReading, sharedRefusals, requestRefusals}
-use Rattle.observer.proofs.Refusals.{still-refused, passed-on}
+use Rattle.observer_rules.specs.Observer.{lastReading, sharedRefusals, requestRefusals}
+use Rattle.observer_rules.proofs.Refusals.{still-refused, passed-on}
 use Rattle.observer.proofs.request_refusal.Statement.{statement}
 use Rattle.observer.proofs.request_refusal.Tie as tie
 

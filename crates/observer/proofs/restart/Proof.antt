@@ -1,6 +1,6 @@
 -- `observer::restart` meets its contract. Assumes nothing.
 use borrow.Author.Needs.{needs}
-use Rattle.observer.specs.Observer.{restartOf}
+use Rattle.observer_rules.specs.Observer.{restartOf}
 use Rattle.observer.proofs.restart.Statement.{statement}
 use Rattle.observer.proofs.restart.Tie as tie
 

@@ -1,6 +1,6 @@
 -- `observer::status_at` meets its contract. Assumes nothing.
 use borrow.Author.Tests.{lt-ltb, le-ltb}
-use Rattle.observer.specs.Observer.{statusAt}
+use Rattle.observer_rules.specs.Observer.{statusAt}
 use Rattle.observer.proofs.status_at.Statement.{statement}
 use Rattle.observer.proofs.status_at.Tie as tie
 

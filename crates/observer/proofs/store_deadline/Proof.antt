@@ -1,6 +1,6 @@
 -- `observer::store_deadline` meets its contract. Assumes nothing.
 use mathlib.Core.Path.{refl}
-use Rattle.observer.specs.Observer.{store}
+use Rattle.observer_rules.specs.Observer.{store}
 use Rattle.observer.proofs.store_deadline.Statement.{statement}
 use Rattle.observer.proofs.store_deadline.Tie as tie
 

@@ -3,8 +3,8 @@ use native.Mathlib.Omega.{arith}
 use lib.Seq.{take-nil}
 use borrow.Author.Tests.{le-ltb, lt-ltb}
 use borrow.Author.Needs.{needs}
-use Rattle.observer.specs.Observer.{storeAll, stores}
-use Rattle.observer.proofs.Laws.{all-of-them}
+use Rattle.observer_rules.specs.Observer.{storeAll, stores}
+use Rattle.observer_rules.proofs.Laws.{all-of-them}
 use Rattle.observer.proofs.store_first.Statement.{statement}
 use Rattle.observer.proofs.store_first.Tie as tie
 

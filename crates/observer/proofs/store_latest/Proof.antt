@@ -1,6 +1,6 @@
 -- `observer::store_latest` meets its contract. Assumes nothing.
 use mathlib.Core.Path.{refl}
-use Rattle.observer.specs.Observer.{store}
+use Rattle.observer_rules.specs.Observer.{store}
 use Rattle.observer.proofs.store_latest.Statement.{statement}
 use Rattle.observer.proofs.store_latest.Tie as tie
 

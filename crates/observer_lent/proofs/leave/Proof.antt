@@ -44,11 +44,11 @@ use Rattle.words.specs.Tests.{if_then_else_}
 use Rattle.messages.specs.Answers.{said}
 use Rattle.messages.proofs.Answer as N
 use Rattle.messages.proofs.Answer.Laws as N′
-use Rattle.observer.specs.declared.Observer.{Observer}
+use Rattle.observer_rules.specs.declared.Observer.{Observer}
 use Rattle.observer.specs.declared.Stepped.{Stepped}
-use Rattle.observer.specs.Observer.{store, atReading}
-use Rattle.observer.specs.Observer.Store.{deadline, latest}
-use Rattle.observer.proofs.Observer as T
+use Rattle.observer_rules.specs.Observer.{store, atReading}
+use Rattle.observer_rules.specs.Observer.Store.{deadline, latest}
+use Rattle.observer_rules.proofs.Observer as T
 use Rattle.observer.proofs.Stepped as D
 use Rattle.observer.proofs.Stepped.Laws as D′
 use Rattle.observer_lent.specs.Left.{refused, left}

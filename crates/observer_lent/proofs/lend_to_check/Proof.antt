@@ -47,12 +47,12 @@ use Rattle.messages.proofs.Answer as N
 use Rattle.messages.proofs.Answer.Laws as N′
 use Rattle.messages.specs.Answers.{said}
 use Rattle.messages.specs.Outcomes.{_leaving_}
-use Rattle.observer.specs.declared.Observer.{Observer}
+use Rattle.observer_rules.specs.declared.Observer.{Observer}
 use Rattle.observer.specs.declared.Stepped.{Stepped}
-use Rattle.observer.specs.Observer.{checkOf}
+use Rattle.observer_rules.specs.Observer.{checkOf}
 use Rattle.observer.specs.Outcome.{outcome}
-use Rattle.observer.proofs.Observer as T
-use Rattle.observer.proofs.Observer.Laws as T′
+use Rattle.observer_rules.proofs.Observer as T
+use Rattle.observer_rules.proofs.Observer.Laws as T′
 use Rattle.observer.proofs.Stepped as D
 use Rattle.observer.proofs.Stepped.Laws as D′
 use Rattle.observer_lent.proofs.Record.{mach, lies, lay, paired, answer-spelled}

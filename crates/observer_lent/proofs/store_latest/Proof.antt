@@ -35,10 +35,10 @@ use denote.Triple.Spec.{Meets, tripleOf}
 use denote.Triple.Table.{entered}
 use denote.Triple.Walked.{says, Stays, stay-ref, stay-none, walkOf, AllGo, goes-none, goes-ref, Walks, ends-at, walked, walk-meets}
 use denote.Exit.{yes}
-use Rattle.observer.specs.declared.Observer.{Observer}
-use Rattle.observer.specs.Observer.{store}
-use Rattle.observer.proofs.Observer as T
-use Rattle.observer.proofs.Observer.Laws as T′
+use Rattle.observer_rules.specs.declared.Observer.{Observer}
+use Rattle.observer_rules.specs.Observer.{store}
+use Rattle.observer_rules.proofs.Observer as T
+use Rattle.observer_rules.proofs.Observer.Laws as T′
 use Rattle.observer_lent.proofs.Record.{mach, made, bounds}
 use Rattle.observer_lent.proofs.store_latest.Key.{name as #store-latest}
 use Rattle.observer_lent.proofs.store_latest as stores

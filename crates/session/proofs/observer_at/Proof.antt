@@ -2,7 +2,7 @@
 use native.Mathlib.Omega.{arith}
 use lib.ListN.{List·getD-eq-default as getD-eq-default}
 use mathlib.Core.Path.{sym, _∙_}
-use Rattle.observer.specs.Observer.{fresh}
+use Rattle.observer_rules.specs.Observer.{fresh}
 use borrow.Author.Needs.{needs}
 use Rattle.session.proofs.observer_at.Statement.{statement}
 use Rattle.session.proofs.observer_at.Tie as tie

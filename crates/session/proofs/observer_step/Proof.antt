@@ -1,5 +1,5 @@
 -- Each step is the party's own. Assumes nothing.
-use Rattle.observer.specs.Observer.{stepOf as observerOf}
+use Rattle.observer_rules.specs.Observer.{stepOf as observerOf}
 use borrow.Author.Needs.{needs}
 use Rattle.session.proofs.observer_step.Statement.{statement}
 use Rattle.session.proofs.observer_step.Tie as tie

@@ -1,5 +1,5 @@
 -- Each step is the party's own. Assumes nothing.
-use Rattle.standby.specs.Standby.{stepWithin}
+use Rattle.standby_rules.specs.Standby.{stepWithin}
 use borrow.Author.Needs.{needs}
 use Rattle.session.proofs.standby_step.Statement.{statement}
 use Rattle.session.proofs.standby_step.Tie as tie

@@ -4,7 +4,7 @@ use Rattle.messages.specs.declared.Answer.{Answer}
 use Rattle.messages.specs.Answers.{said}
 use Rattle.messages.specs.Outcomes.{Outcome, _leaving_}
 use Rattle.messages.proofs.Apart.{said-apart}
-use Rattle.observer.specs.declared.Observer.{Observer}
+use Rattle.observer_rules.specs.declared.Observer.{Observer}
 use Rattle.settled.proofs.Apart.{observer-apart}
 use Rattle.settled.proofs.lent_settled.Statement.{statement}
 use Rattle.settled.proofs.lent_settled.Tie as tie

@@ -8,9 +8,9 @@ use Rattle.settings.proofs.Laws.{accepted-in-range}
 use Rattle.words.specs.Tests.{if_then_else_}
 use Rattle.messages.specs.Answers.{says}
 use Rattle.messages.specs.Outcomes.{_leaving_, unlessRefused}
-use Rattle.standby.specs.declared.Place.{Place}
-use Rattle.standby.specs.Standby.{unused, atReading, keeping, afterKeeping, ackWithin, ackOf}
-use Rattle.standby.proofs.Refusals.{ack-counted}
+use Rattle.standby_rules.specs.declared.Place.{Place}
+use Rattle.standby_rules.specs.Standby.{unused, atReading, keeping, afterKeeping, ackWithin, ackOf}
+use Rattle.standby_rules.proofs.Refusals.{ack-counted}
 use borrow.Author.Needs.{needs}
 use Rattle.standby.proofs.ack.Statement.{statement}
 use Rattle.standby.proofs.ack.Tie as tie

@@ -10,7 +10,7 @@ use Rattle.words.proofs.Said.{first-stays, first-goes-on}
 use Rattle.settings.specs.Settings.{n, refusals}
 use Rattle.messages.specs.Messages.{topCounter, topReading}
 use Rattle.messages.specs.Outcomes.{badReading}
-use Rattle.standby.specs.Standby.{isOpen, lastReading, hasForm, ackRefusals}
+use Rattle.standby_rules.specs.Standby.{isOpen, lastReading, hasForm, ackRefusals}
 use borrow.Author.Needs.{needs}
 use Rattle.standby.proofs.ack_refusal.Statement.{statement}
 use Rattle.standby.proofs.ack_refusal.Tie as tie

@@ -2,7 +2,7 @@
 use mathlib.Core.Path.{_≡_, _∙_}
 use Rattle.settings.specs.Quorums.{closes}
 use Rattle.messages.specs.Answers.{said}
-use Rattle.standby.specs.Standby.{keptMarks, afterKeeping}
+use Rattle.standby_rules.specs.Standby.{keptMarks, afterKeeping}
 use borrow.Author.Needs.{needs}
 use Rattle.standby.proofs.after_keeping.Statement.{statement}
 use Rattle.standby.proofs.after_keeping.Tie as tie

@@ -7,7 +7,7 @@ use mathlib.Core.Bool.{_&&_}
 use lib.ListN.{drop}
 use Rattle.words.specs.Lists.{every}
 use Rattle.words.proofs.Walks.{every-more, every-done}
-use Rattle.standby.specs.Standby.{unused, goodPlace}
+use Rattle.standby_rules.specs.Standby.{unused, goodPlace}
 use Rattle.standby.proofs.all_good.Statement.{statement}
 use Rattle.standby.proofs.all_good.Tie as tie
 

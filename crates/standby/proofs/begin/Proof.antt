@@ -3,7 +3,7 @@ use borrow.Author.Needs.{needs}
 use borrow.Author.Tests.{ne-eqb}
 use Rattle.messages.specs.Answers.{said}
 use Rattle.messages.specs.Outcomes.{unlessRefused}
-use Rattle.standby.specs.Standby.{beginOf}
+use Rattle.standby_rules.specs.Standby.{beginOf}
 use Rattle.standby.proofs.begin.Statement.{statement}
 use Rattle.standby.proofs.begin.Tie as tie
 

@@ -7,7 +7,7 @@ use Rattle.words.specs.Said.{first, _when_}
 use Rattle.words.proofs.Said.{first-stays, first-goes-on}
 use Rattle.settings.specs.Settings.{refusals}
 use Rattle.messages.specs.Outcomes.{badReading}
-use Rattle.standby.specs.Standby.{lastReading, hasForm, beginRefusals}
+use Rattle.standby_rules.specs.Standby.{lastReading, hasForm, beginRefusals}
 use borrow.Author.Needs.{needs}
 use Rattle.standby.proofs.begin_refusal.Statement.{statement}
 use Rattle.standby.proofs.begin_refusal.Tie as tie

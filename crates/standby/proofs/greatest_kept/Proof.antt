@@ -5,8 +5,8 @@ use native.Mathlib.Omega.{arith}
 use mathlib.Core.Path.{_≡_, sym, _∙_}
 use mathlib.Core.Logic.{⊎-elim}
 use lib.ListN.{drop}
-use Rattle.standby.specs.Standby.{greatest}
-use Rattle.standby.proofs.Verdicts.{greatest-more, greatest-done}
+use Rattle.standby_rules.specs.Standby.{greatest}
+use Rattle.standby_rules.proofs.Verdicts.{greatest-more, greatest-done}
 use Rattle.standby.proofs.greatest_kept.Statement.{statement}
 use Rattle.standby.proofs.greatest_kept.Tie as tie
 

@@ -3,7 +3,7 @@ use mathlib.Core.Bool.{true}
 use lib.ListN.{getD, drop}
 use Rattle.words.specs.Lists.{every}
 use Rattle.words.proofs.Walks.{every-joined}
-use Rattle.standby.specs.Standby.{form, hasForm}
+use Rattle.standby_rules.specs.Standby.{form, hasForm}
 use borrow.Author.Needs.{needs}
 use Rattle.standby.proofs.has_form.Statement.{statement}
 use Rattle.standby.proofs.has_form.Tie as tie

@@ -1,5 +1,5 @@
 -- `standby::is_dead` meets its contract, case by case. Assumes nothing.
-use Rattle.standby.specs.Standby.{isDead}
+use Rattle.standby_rules.specs.Standby.{isDead}
 use borrow.Author.Needs.{needs}
 use Rattle.standby.proofs.is_dead.Statement.{statement}
 use Rattle.standby.proofs.is_dead.Tie as tie

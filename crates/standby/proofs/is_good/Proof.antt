@@ -1,5 +1,5 @@
 -- `standby::is_good` meets its contract. Assumes nothing.
-use Rattle.standby.specs.Standby.{goodPlace}
+use Rattle.standby_rules.specs.Standby.{goodPlace}
 use borrow.Author.Needs.{needs}
 use Rattle.standby.proofs.is_good.Statement.{statement}
 use Rattle.standby.proofs.is_good.Tie as tie

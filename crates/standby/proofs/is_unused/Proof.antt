@@ -1,5 +1,5 @@
 -- `standby::is_unused` meets its contract. Assumes nothing.
-use Rattle.standby.specs.Standby.{isUnused}
+use Rattle.standby_rules.specs.Standby.{isUnused}
 use borrow.Author.Needs.{needs}
 use Rattle.standby.proofs.is_unused.Statement.{statement}
 use Rattle.standby.proofs.is_unused.Tie as tie

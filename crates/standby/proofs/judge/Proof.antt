@@ -1,7 +1,7 @@
 -- `standby::judge` meets its contract. Assumes nothing.
 use borrow.Author.Tests.{eq-eqb, ne-eqb}
 use Rattle.messages.specs.Answers.{said}
-use Rattle.standby.specs.Standby.{verdict}
+use Rattle.standby_rules.specs.Standby.{verdict}
 use borrow.Author.Needs.{needs}
 use Rattle.standby.proofs.judge.Statement.{statement}
 use Rattle.standby.proofs.judge.Tie as tie

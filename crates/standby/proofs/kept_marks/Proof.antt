@@ -6,8 +6,8 @@ use mathlib.Core.Path.{_≡_, refl, _∙_}
 use mathlib.Core.List.{_++_}
 use lib.ListN.{length, take, drop, length-set}
 use Rattle.words.proofs.Walks.{map-more, map-done}
-use Rattle.standby.specs.declared.Place.{Place}
-use Rattle.standby.specs.Standby.{unused, keptMarks}
+use Rattle.standby_rules.specs.declared.Place.{Place}
+use Rattle.standby_rules.specs.Standby.{unused, keptMarks}
 use Rattle.standby.proofs.kept_marks.Statement.{statement}
 use Rattle.standby.proofs.kept_marks.Tie as tie
 

@@ -2,7 +2,7 @@
 use borrow.Author.Needs.{needs}
 use borrow.Author.Tests.{ne-eqb}
 use Rattle.messages.specs.Outcomes.{unlessRefused}
-use Rattle.standby.specs.Standby.{pollWithin}
+use Rattle.standby_rules.specs.Standby.{pollWithin}
 use Rattle.standby.proofs.poll.Statement.{statement}
 use Rattle.standby.proofs.poll.Tie as tie
 

@@ -6,7 +6,7 @@ use borrow.Author.Needs.{needs}
 use Rattle.words.specs.Lists.{every}
 use Rattle.words.specs.Said.{first, _when_}
 use Rattle.words.proofs.Said.{first-stays, first-goes-on}
-use Rattle.standby.specs.Standby.{isOpen, beginRefusals, pollRefusals}
+use Rattle.standby_rules.specs.Standby.{isOpen, beginRefusals, pollRefusals}
 use Rattle.standby.proofs.poll_refusal.Statement.{statement}
 use Rattle.standby.proofs.poll_refusal.Tie as tie
 

@@ -7,7 +7,7 @@ use mathlib.Core.Bool.{_||_}
 use lib.ListN.{drop}
 use Rattle.words.specs.Lists.{some}
 use Rattle.words.proofs.Walks.{some-more, some-done}
-use Rattle.standby.specs.Standby.{unused, saysDead}
+use Rattle.standby_rules.specs.Standby.{unused, saysDead}
 use Rattle.standby.proofs.some_dead.Statement.{statement}
 use Rattle.standby.proofs.some_dead.Tie as tie
 

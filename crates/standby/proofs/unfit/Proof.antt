@@ -6,7 +6,7 @@ use Rattle.words.specs.Lists.{every}
 use Rattle.words.specs.Said.{first, _when_}
 use Rattle.words.proofs.Said.{first-stays, first-goes-on}
 use Rattle.settings.specs.Settings.{refusals, refusalOf}
-use Rattle.standby.specs.Standby.{hasForm}
+use Rattle.standby_rules.specs.Standby.{hasForm}
 use borrow.Author.Needs.{needs}
 use Rattle.standby.proofs.unfit.Statement.{statement}
 use Rattle.standby.proofs.unfit.Tie as tie

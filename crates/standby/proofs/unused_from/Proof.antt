@@ -7,7 +7,7 @@ use mathlib.Core.Bool.{_&&_}
 use lib.ListN.{drop}
 use Rattle.words.specs.Lists.{every}
 use Rattle.words.proofs.Walks.{every-more, every-done}
-use Rattle.standby.specs.Standby.{unused, isUnused}
+use Rattle.standby_rules.specs.Standby.{unused, isUnused}
 use Rattle.standby.proofs.unused_from.Statement.{statement}
 use Rattle.standby.proofs.unused_from.Tie as tie
 

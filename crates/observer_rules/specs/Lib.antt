@@ -1,0 +1,3 @@
+-- Document 01, "Observer".
+pub mod Observer
+pub mod Claims

@@ -1,0 +1,32 @@
+// The observer's record and the rules of its steps. Serves document 01, "Observer": specs/Observer.antt says what each step does,
+// specs/Claims.antt what every step keeps; the code is in `observer`.
+ghost use Rattle.observer_rules.specs.Claims.{FormIsKept, LatestNeverFalls, DeadlineFirst, GrantIsStored, DeadFromDeadline};
+
+pub struct Observer {
+    // stored: the highest request granted, and until when its lease runs
+    pub latest: u64,
+    pub deadline: u64,
+    // in memory: 0 after a restart
+    pub last_reading: u64,
+}
+
+// What every step keeps, whatever its event.
+pub fn form_is_kept()
+    ensures { λ _. ⌜ FormIsKept ⌝ }
+{}
+
+pub fn latest_never_falls()
+    ensures { λ _. ⌜ LatestNeverFalls ⌝ }
+{}
+
+pub fn deadline_first()
+    ensures { λ _. ⌜ DeadlineFirst ⌝ }
+{}
+
+pub fn grant_is_stored()
+    ensures { λ _. ⌜ GrantIsStored ⌝ }
+{}
+
+pub fn dead_from_deadline()
+    ensures { λ _. ⌜ DeadFromDeadline ⌝ }
+{}

@@ -1,0 +1,3 @@
+-- Document 01, "Standby".
+pub mod Standby
+pub mod Claims
