@@ -20,7 +20,7 @@ use Rattle.messages.specs.declared.Status.the-variants.{Alive, Dead}
 use Rattle.messages.specs.declared.Message.the-variants.{LeaseRequest, LeaseGrant, Check, CheckAck}
 use Rattle.messages.specs.Messages.{fieldsOf, statusWord}
 use Rattle.messages.specs.Answers.{refuses, sends, says, saysOf, spokenFields}
-use Rattle.lines.specs.Writing.{bytesOf, joined, oneNumber, twoNumbers}
+use Rattle.lines_rules.specs.Writing.{bytesOf, joined, oneNumber, twoNumbers}
 use Rattle.answer_lines.specs.Answers.{answerLine, signed, valueFields, settingsAnswer, valuesLine}
 
 pub refusal-line : (k : ℕ) → answerLine (refuses k) ≡ oneNumber [] k

@@ -25,7 +25,7 @@ use Rattle.messages.specs.declared.Message.the-variants.{LeaseRequest, LeaseGra
 use Rattle.messages.specs.declared.Answer.{Answer}
 use Rattle.messages.specs.declared.Answer.the-variants.{Refused, Send, Unregistered, Running, Stopped, Silent, Cut, Waiting, Late, Unknown, Dead as SaysDead, Alive as SaysAlive}
 use Rattle.messages.specs.Answers.{says, said}
-use Rattle.lines.specs.Writing.{joined, oneNumber, twoNumbers}
+use Rattle.lines_rules.specs.Writing.{joined, oneNumber, twoNumbers}
 use Rattle.answer_lines.specs.Answers.{answerLine, signed, valueFields, settingsAnswer}
 use Rattle.answer_lines.proofs.Lines.{refusal-line, request-line, grant-line, check-line, alive-line, dead-line, word-line, value-line}
 

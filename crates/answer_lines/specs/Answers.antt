@@ -10,7 +10,7 @@ use Rattle.fields.specs.Decimals.{digits}
 use Rattle.settings.specs.declared.Settings.{Settings}
 use Rattle.settings.specs.Answers.{Values, judged}
 use Rattle.messages.specs.Answers.{Spoken, spokenFields}
-use Rattle.lines.specs.Writing.{bytesOf, joined}
+use Rattle.lines_rules.specs.Writing.{bytesOf, joined}
 
 -- A step's answer: "a message, or one word (dead and alive followed by m)".
 unfoldable pub answerLine : Said Spoken → List ℕ

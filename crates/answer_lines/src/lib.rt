@@ -19,7 +19,7 @@ ghost use lib.IntN.{pos};
 ghost use Rattle.settings.specs.Settings.{negative};
 ghost use Rattle.messages.specs.Answers.{said, sends};
 ghost use Rattle.lines.specs.Answers.{saidOfWritten};
-ghost use Rattle.lines.specs.Writing.{fitting, filled};
+ghost use Rattle.lines_rules.specs.Writing.{fitting, filled};
 ghost use Rattle.answer_lines.specs.Answers.{answerLine, valuesLine, settingsAnswer};
 
 fn write_message(m: Message, out: &mut [u8]) -> LineWritten

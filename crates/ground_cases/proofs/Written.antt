@@ -10,7 +10,7 @@ use Rattle.words.specs.Tests.{if_then_else_, _<?_}
 use Rattle.words.specs.Said.Said.{refusal, gives}
 use Rattle.messages.specs.declared.Message.{Message}
 use Rattle.messages.specs.Messages.{hasForm}
-use Rattle.lines.specs.Writing.{lineOf, fitting, writeSaid}
+use Rattle.lines_rules.specs.Writing.{lineOf, fitting, writeSaid}
 
 pub within : (m : Message) (room : List ℕ) (k : ℕ) → gives k ≡ writeSaid m room → k ≤ length room
 unfolding writeSaid fitting

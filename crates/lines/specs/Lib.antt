@@ -1,5 +1,2 @@
 -- Document 01, "Message lines".
 pub mod Answers
-pub mod Reading
-pub mod Writing
-pub mod Claims

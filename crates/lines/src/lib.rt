@@ -1,5 +1,6 @@
 // Message lines: one line of text for each message, read from any bytes and written into lent room. Serves document 01,
-// "Message lines". Each field is read from the part of the line that begins where the field begins.
+// "Message lines". Each field is read from the part of the line that begins where the field begins. What is read and written
+// stands in `lines_rules`.
 use fields::Number;
 use fields::digit_count;
 use fields::is_exactly;
@@ -13,10 +14,9 @@ use messages::Status;
 ghost use mathlib.Core.Path.{_≡_};
 ghost use Rattle.messages.specs.Messages.{hasForm};
 ghost use Rattle.messages.specs.declared.Message.the-variants.{LeaseRequest, LeaseGrant, Check};
-ghost use Rattle.lines.specs.Reading.{onlyNumber, oneOf, readAckStatus, readAckCounter, readAck, readLine};
-ghost use Rattle.lines.specs.Writing.{fitting, filled, oneNumber, twoNumbers, writeSaid, writeRoom};
+ghost use Rattle.lines_rules.specs.Reading.{onlyNumber, oneOf, readAckStatus, readAckCounter, readAck, readLine};
+ghost use Rattle.lines_rules.specs.Writing.{fitting, filled, oneNumber, twoNumbers, writeSaid, writeRoom};
 ghost use Rattle.lines.specs.Answers.{saidOfRead, saidOfWritten};
-ghost use Rattle.lines.specs.Claims.{WrittenIsRead, ReadIsWritten, FortyFourAreEnough, FortyFourAreNeeded};
 
 // What the reader answers: the message, or 9.
 pub enum LineRead {
@@ -202,23 +202,3 @@ pub fn write_line(m: Message, out: &mut [u8]) -> LineWritten
         },
     }
 }
-
-// A message that is written is read back as itself.
-pub fn written_is_read()
-    ensures { λ _. ⌜ WrittenIsRead ⌝ }
-{}
-
-// A line that is read is, byte for byte, what writing its message gives.
-pub fn read_is_written()
-    ensures { λ _. ⌜ ReadIsWritten ⌝ }
-{}
-
-// 44 bytes of room are enough for every message.
-pub fn forty_four_are_enough()
-    ensures { λ _. ⌜ FortyFourAreEnough ⌝ }
-{}
-
-// One message needs them.
-pub fn forty_four_are_needed()
-    ensures { λ _. ⌜ FortyFourAreNeeded ⌝ }
-{}

@@ -1,5 +1,2 @@
 -- Laws of lines and of the answers to them.
-pub mod Lines
-pub mod Steps
-pub mod Files
-pub mod Claims
+pub mod Answers

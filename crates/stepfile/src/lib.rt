@@ -1,5 +1,6 @@
 // A step file in, its answers out, as bytes. Serves document 01, "Program `rackrun`". The file is split into lines, each line
-// performs one step on the session, and its answer is one line: what is written is a function of the input.
+// performs one step on the session, and its answer is one line: what is written is a function of the input, `answers` of
+// `stepfile_rules`.
 use answer_lines::write_answer;
 use answer_lines::write_settings_answer;
 use fields::part_from;
@@ -23,9 +24,9 @@ ghost use lib.ListN.{length, take, drop};
 ghost use Rattle.fields.specs.Places.{putAt};
 ghost use Rattle.lines.specs.Answers.{saidOfWritten};
 ghost use Rattle.session.specs.Session.{started};
-ghost use Rattle.stepfile.specs.Lines.{lineLength, linesOf};
-ghost use Rattle.stepfile.specs.Claims.{LinesMakeTheFile, RoomIsEnough, OneLineEach};
-ghost use Rattle.stepfile.specs.Files.{lengthSaid, answersTo, answersOf, saidOfAnswered, answeredSaid, answeredRoom};
+ghost use Rattle.stepfile_rules.specs.Lines.{lineLength, linesOf};
+ghost use Rattle.stepfile_rules.specs.Files.{lengthSaid, answersTo, answersOf, answeredSaid, answeredRoom};
+ghost use Rattle.stepfile.specs.Answers.{saidOfAnswered};
 
 // The longest input.
 pub const MOST_BYTES: usize = 65536;
@@ -153,18 +154,3 @@ pub fn answer_file(input: &[u8], out: &mut [u8]) -> Answered
     }
     Answered::Length(answer_lines_of(input, out))
 }
-
-// Splitting loses nothing.
-pub fn lines_make_the_file()
-    ensures { λ _. ⌜ LinesMakeTheFile ⌝ }
-{}
-
-// The room that is asked for is enough.
-pub fn room_is_enough()
-    ensures { λ _. ⌜ RoomIsEnough ⌝ }
-{}
-
-// Each line gets exactly one line, until the run ends.
-pub fn one_line_each()
-    ensures { λ _. ⌜ OneLineEach ⌝ }
-{}

@@ -10,7 +10,7 @@ use Rattle.words.specs.Said.Said.{gives}
 use Rattle.fields.specs.Decimals.{digits}
 use Rattle.fields.proofs.Digits.{digits-most}
 use Rattle.fields.proofs.Rooms.{length-put, put-none, put-then}
-use Rattle.lines.proofs.Lines.{fits-said, fits-room, short-said, short-room}
+use Rattle.lines_rules.proofs.Lines.{fits-said, fits-room, short-said, short-room}
 use Rattle.answer_lines.specs.Answers.{valuesLine}
 use borrow.Author.Needs.{needs}
 use Rattle.answer_lines.proofs.write_values.Statement.{statement}

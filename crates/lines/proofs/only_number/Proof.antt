@@ -1,5 +1,5 @@
 -- A number, and the line feed behind it. Assumes nothing.
-use Rattle.lines.specs.Reading.{ended, onlyNumber}
+use Rattle.lines_rules.specs.Reading.{ended, onlyNumber}
 use borrow.Author.Needs.{needs}
 use Rattle.lines.proofs.only_number.Statement.{statement}
 use Rattle.lines.proofs.only_number.Tie as tie

@@ -1,5 +1,5 @@
 -- The ts, and what stands behind it. Assumes nothing.
-use Rattle.lines.specs.Reading.{counterBehind, readAck}
+use Rattle.lines_rules.specs.Reading.{counterBehind, readAck}
 use borrow.Author.Needs.{needs}
 use Rattle.lines.proofs.read_ack.Statement.{statement}
 use Rattle.lines.proofs.read_ack.Tie as tie

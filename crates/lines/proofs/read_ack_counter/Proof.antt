@@ -1,6 +1,6 @@
 -- A tab, the counter, and what stands behind it. Assumes nothing.
 use borrow.Author.Tests.{not-true, not-false}
-use Rattle.lines.specs.Reading.{statusBehind, readAckCounter}
+use Rattle.lines_rules.specs.Reading.{statusBehind, readAckCounter}
 use borrow.Author.Needs.{needs}
 use Rattle.lines.proofs.read_ack_counter.Statement.{statement}
 use Rattle.lines.proofs.read_ack_counter.Tie as tie

@@ -1,5 +1,5 @@
 -- `Alive` or `Dead`, or 9. Assumes nothing.
-use Rattle.lines.specs.Reading.{readAckStatus}
+use Rattle.lines_rules.specs.Reading.{readAckStatus}
 use borrow.Author.Needs.{needs}
 use Rattle.lines.proofs.read_ack_status.Statement.{statement}
 use Rattle.lines.proofs.read_ack_status.Tie as tie

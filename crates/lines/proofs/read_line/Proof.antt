@@ -4,7 +4,7 @@ use mathlib.Core.Bool.{false}
 use denote.Ref.{now}
 use Rattle.words.specs.Lists.{text}
 use Rattle.fields.specs.Places.{begins}
-use Rattle.lines.specs.Reading.{readLine}
+use Rattle.lines_rules.specs.Reading.{readLine}
 use borrow.Author.Needs.{needs}
 use Rattle.lines.proofs.read_line.Statement.{statement}
 use Rattle.lines.proofs.read_line.Tie as tie

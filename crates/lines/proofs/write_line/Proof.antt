@@ -4,8 +4,8 @@ use mathlib.Core.Path.{_≡_, refl, sym, ap, _∙_}
 use borrow.Author.Tests.{not-true, not-false}
 use Rattle.messages.specs.declared.Message.the-variants.{CheckAck}
 use Rattle.messages.specs.Messages.{hasForm}
-use Rattle.lines.specs.Writing.{writeSaid, writeRoom}
-use Rattle.lines.proofs.Lines.{request-line, grant-line, check-line, alive-line, dead-line}
+use Rattle.lines_rules.specs.Writing.{writeSaid, writeRoom}
+use Rattle.lines_rules.proofs.Lines.{request-line, grant-line, check-line, alive-line, dead-line}
 use borrow.Author.Needs.{needs}
 use Rattle.lines.proofs.write_line.Statement.{statement}
 use Rattle.lines.proofs.write_line.Tie as tie

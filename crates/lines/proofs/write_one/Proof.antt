@@ -9,7 +9,7 @@ use Rattle.words.specs.Said.Said.{gives}
 use Rattle.fields.specs.Decimals.{digits}
 use Rattle.fields.proofs.Digits.{digits-most}
 use Rattle.fields.proofs.Rooms.{put-none, put-then}
-use Rattle.lines.proofs.Lines.{fits-said, fits-room, short-said, short-room}
+use Rattle.lines_rules.proofs.Lines.{fits-said, fits-room, short-said, short-room}
 use borrow.Author.Needs.{needs}
 use Rattle.lines.proofs.write_one.Statement.{statement}
 use Rattle.lines.proofs.write_one.Tie as tie

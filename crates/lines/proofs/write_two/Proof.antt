@@ -10,8 +10,8 @@ use Rattle.words.specs.Said.Said.{gives}
 use Rattle.fields.specs.Decimals.{digits}
 use Rattle.fields.proofs.Digits.{digits-most}
 use Rattle.fields.proofs.Rooms.{put-none, put-then}
-use Rattle.lines.specs.Writing.{twoNumbers}
-use Rattle.lines.proofs.Lines.{fits-said, fits-room, short-said, short-room}
+use Rattle.lines_rules.specs.Writing.{twoNumbers}
+use Rattle.lines_rules.proofs.Lines.{fits-said, fits-room, short-said, short-room}
 use borrow.Author.Needs.{needs}
 use Rattle.lines.proofs.write_two.Statement.{statement}
 use Rattle.lines.proofs.write_two.Tie as tie

@@ -5,7 +5,7 @@ use mathlib.Core.Path.{sym, ap, _∙_}
 use denote.Ref.{now}
 use Rattle.words.specs.Said.Said.{gives}
 use Rattle.fields.proofs.Rooms.{put-none, put-then}
-use Rattle.lines.proofs.Lines.{fits-said, fits-room, short-said, short-room}
+use Rattle.lines_rules.proofs.Lines.{fits-said, fits-room, short-said, short-room}
 use borrow.Author.Needs.{needs}
 use Rattle.lines.proofs.write_word.Statement.{statement}
 use Rattle.lines.proofs.write_word.Tie as tie

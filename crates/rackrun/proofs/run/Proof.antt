@@ -5,8 +5,8 @@ use mathlib.Core.Path.{_≡_, sym, ap, _∙_}
 use denote.Ref.{now}
 use lib.ListN.{length}
 use lib.Seq.{length-take-le}
-use Rattle.stepfile.specs.Files.{saidOfAnswered}
-use Rattle.stepfile.proofs.Files.{in-room}
+use Rattle.stepfile.specs.Answers.{saidOfAnswered}
+use Rattle.stepfile_rules.proofs.Files.{in-room}
 use borrow.Author.Needs.{needs}
 use Rattle.rackrun.proofs.run.Statement.{statement}
 use Rattle.rackrun.proofs.run.Tie as tie

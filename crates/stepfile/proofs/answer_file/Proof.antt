@@ -6,9 +6,9 @@ use denote.Ref.{now}
 use Rattle.fields.proofs.Rooms.{put-nothing}
 use Rattle.messages.specs.Answers.{said, refuses}
 use Rattle.answer_lines.specs.Answers.{answerLine}
-use Rattle.stepfile.specs.Lines.{linesOf}
-use Rattle.stepfile.specs.Files.{lengthSaid, answersOf}
-use Rattle.stepfile.proofs.Files.{written, too-long, in-length, ten, too-short, none-answered, settled}
+use Rattle.stepfile_rules.specs.Lines.{linesOf}
+use Rattle.stepfile_rules.specs.Files.{lengthSaid, answersOf}
+use Rattle.stepfile_rules.proofs.Files.{written, too-long, in-length, ten, too-short, none-answered, settled}
 use borrow.Author.Needs.{needs}
 use Rattle.stepfile.proofs.answer_file.Statement.{statement}
 use Rattle.stepfile.proofs.answer_file.Tie as tie

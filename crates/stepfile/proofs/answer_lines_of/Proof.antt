@@ -15,10 +15,10 @@ use Rattle.step_lines.specs.Reading.{settingsLine}
 use Rattle.answer_lines.specs.Answers.{answerLine, settingsAnswer}
 use Rattle.answer_lines.proofs.Lines.{refusal-line}
 use Rattle.session.specs.Session.{started}
-use Rattle.stepfile.specs.Lines.{linesOf}
-use Rattle.stepfile.specs.Files.{answersTo, afterSettings, lengthSaid}
-use Rattle.stepfile.proofs.Steps.{answers-short}
-use Rattle.stepfile.proofs.Files.{written, first-within, opened, settings-fit, goes-on, ends}
+use Rattle.stepfile_rules.specs.Lines.{linesOf}
+use Rattle.stepfile_rules.specs.Files.{answersTo, afterSettings, lengthSaid}
+use Rattle.stepfile_rules.proofs.Steps.{answers-short}
+use Rattle.stepfile_rules.proofs.Files.{written, first-within, opened, settings-fit, goes-on, ends}
 use borrow.Author.Needs.{needs}
 use Rattle.stepfile.proofs.answer_lines_of.Statement.{statement}
 use Rattle.stepfile.proofs.answer_lines_of.Tie as tie

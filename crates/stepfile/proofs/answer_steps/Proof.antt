@@ -8,15 +8,15 @@ use borrow.Rule.Slice.PartMut.{putMid}
 use lib.ListN.{length, take, drop, length-drop}
 use Rattle.fields.specs.Places.{putAt}
 use Rattle.fields.proofs.Rooms.{part-from, put-part}
-use Rattle.lines.proofs.Lines.{fits-said, fits-room}
+use Rattle.lines_rules.proofs.Lines.{fits-said, fits-room}
 use Rattle.messages.specs.Answers.{said}
 use Rattle.messages.specs.Outcomes.{_leaving_}
 use Rattle.step_lines.specs.Reading.{stepLine}
 use Rattle.answer_lines.specs.Answers.{answerLine}
 use Rattle.session.specs.Session.{started, withRecorder, withObserver, withStandby, performOf}
-use Rattle.stepfile.specs.Lines.{lineLength}
-use Rattle.stepfile.specs.Files.{lengthSaid}
-use Rattle.stepfile.proofs.Steps.{sessionOf, Gone, gone-none, gone-sized, gone-fits, gone-next, gone-all}
+use Rattle.stepfile_rules.specs.Lines.{lineLength}
+use Rattle.stepfile_rules.specs.Files.{lengthSaid}
+use Rattle.stepfile_rules.proofs.Steps.{sessionOf, Gone, gone-none, gone-sized, gone-fits, gone-next, gone-all}
 use borrow.Author.Needs.{needs}
 use Rattle.stepfile.proofs.answer_steps.Statement.{statement}
 use Rattle.stepfile.proofs.answer_steps.Tie as tie

@@ -1,5 +1,5 @@
 -- A line that was written has its length, any other none. Assumes nothing.
-use Rattle.stepfile.specs.Files.{lengthSaid}
+use Rattle.stepfile_rules.specs.Files.{lengthSaid}
 use borrow.Author.Needs.{needs}
 use Rattle.stepfile.proofs.length_of.Statement.{statement}
 use Rattle.stepfile.proofs.length_of.Tie as tie

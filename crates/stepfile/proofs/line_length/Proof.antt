@@ -7,8 +7,8 @@ use denote.Ref.{now}
 use mathlib.Core.List.{List}
 use lib.ListN.{length, drop, drop-of-length-le}
 use borrow.Author.Tests.{eq-eqb, ne-eqb}
-use Rattle.stepfile.specs.Lines.{lineLength}
-use Rattle.stepfile.proofs.Lines.{line-end, line-next}
+use Rattle.stepfile_rules.specs.Lines.{lineLength}
+use Rattle.stepfile_rules.proofs.Lines.{line-end, line-next}
 use Rattle.stepfile.proofs.line_length.Statement.{statement}
 use Rattle.stepfile.proofs.line_length.Tie as tie
 
