@@ -1,5 +1,4 @@
--- Demand 3 over runs: clocks and history, the ghosts and the invariant, one module a party, then the three claims, the runs
--- that meet their premises, and the shortcuts refuted.
+-- Demand 3 over runs: clocks and history, the ghosts and the invariant, one module a party, then the three claims.
 pub mod Clocks
 pub mod History
 pub mod Ghost
@@ -13,5 +12,3 @@ pub mod Safety
 pub mod Rounds
 pub mod Detection
 pub mod Exchange
-pub mod Shown
-pub mod Shortcuts

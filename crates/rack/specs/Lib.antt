@@ -2,6 +2,3 @@
 pub mod Clocks
 pub mod Runs
 pub mod Claims
-pub mod Tables
-pub mod Shown
-pub mod Shortcuts

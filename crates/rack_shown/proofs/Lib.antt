@@ -1,0 +1,3 @@
+-- The single runs, shown by computation.
+mod Shown
+mod Shortcuts
