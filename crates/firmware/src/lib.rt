@@ -1,5 +1,5 @@
 // The recorder's steps for C firmware, over the 680 bytes of a record. Serves document 01, "Recorder": 85 words of 8 bytes,
-// the low byte first. The header for C is include/recorder.h.
+// the low byte first. What a call returns and leaves stands in `firmware_rules`; the header for C is include/recorder.h.
 use messages::Answer;
 use recorder::Stepped;
 use recorder_rules::Recorder;
@@ -12,9 +12,8 @@ ghost use Rattle.words.specs.Said.{first};
 ghost use Rattle.fields.specs.Places.{putAt};
 ghost use Rattle.messages.specs.Answers.{said};
 ghost use Rattle.recorder.specs.Outcome.{outcome};
-ghost use Rattle.firmware.specs.Bytes.{wordOf, bytesIn, wordsAt, bytesOf, decoded, encoded};
-ghost use Rattle.firmware.specs.Claims.{BytesComeBack, RecordComesBack};
-ghost use Rattle.firmware.specs.Calls.{given, codeOf, isRefusal, callRefusals, leftBy, tickCall, grantCall, driveCall};
+ghost use Rattle.firmware_rules.specs.Bytes.{wordOf, bytesIn, wordsAt, bytesOf, decoded, encoded};
+ghost use Rattle.firmware_rules.specs.Calls.{given, codeOf, isRefusal, callRefusals, leftBy, tickCall, grantCall, driveCall};
 
 fn wide(byte: u8) -> u64
     ensures { λ r. ⌜ (r ≡ byte) × (r < 256) ⌝ }
@@ -274,13 +273,3 @@ pub extern "C" fn recorder_drive(settings: &[u64; 7], reading: u64, buffer: &mut
     let rec = decode(&buffer[..]);
     leave(&mut buffer[..], recorder::drive(s, rec, reading))
 }
-
-// Encoding what was decoded gives the bytes back.
-pub fn bytes_come_back()
-    ensures { λ _. ⌜ BytesComeBack ⌝ }
-{}
-
-// Decoding what was encoded gives the record back.
-pub fn record_comes_back()
-    ensures { λ _. ⌜ RecordComesBack ⌝ }
-{}

@@ -2,7 +2,7 @@
 use mathlib.Core.Path.{refl}
 use Rattle.fields.specs.Places.{begins, isExactly, agree}
 use Rattle.messages.specs.Answers.{said}
-use Rattle.firmware.specs.Calls.{codeOf}
+use Rattle.firmware_rules.specs.Calls.{codeOf}
 use borrow.Author.Needs.{needs}
 use Rattle.firmware.proofs.code_of.Statement.{statement}
 use Rattle.firmware.proofs.code_of.Tie as tie

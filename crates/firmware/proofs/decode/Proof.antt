@@ -4,8 +4,8 @@ use mathlib.Core.Path.{_≡_, sym, ap, _∙_}
 use mathlib.Core.List.{List}
 use denote.Ref.{now}
 use lib.ListN.{take, drop}
-use Rattle.firmware.specs.Bytes.{wordsAt, decoded}
-use Rattle.firmware.proofs.Words.{words-drop, words-take, words-at}
+use Rattle.firmware_rules.specs.Bytes.{wordsAt, decoded}
+use Rattle.firmware_rules.proofs.Words.{words-drop, words-take, words-at}
 use Rattle.firmware.proofs.decode.Statement.{statement}
 use Rattle.firmware.proofs.decode.Tie as tie
 

@@ -5,7 +5,7 @@ use denote.Ref.{now}
 use lib.ListN.{length}
 use Rattle.recorder.proofs.Places.{sized}
 use Rattle.fields.proofs.Rooms.{length-put}
-use Rattle.firmware.proofs.Words.{record-put}
+use Rattle.firmware_rules.proofs.Words.{record-put}
 use borrow.Author.Needs.{needs}
 use Rattle.firmware.proofs.encode.Statement.{statement}
 use Rattle.firmware.proofs.encode.Tie as tie

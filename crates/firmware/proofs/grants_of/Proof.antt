@@ -7,8 +7,8 @@ use mathlib.Core.List.{List, [], _∷_, _++_, append-nil}
 use denote.Ref.{now}
 use lib.ListN.{length, take, drop, replicate, length-drop}
 use lib.Seq.{drop-drop}
-use Rattle.firmware.specs.Bytes.{wordOf, wordsAt}
-use Rattle.firmware.proofs.Words.{words-length, words-more, fill-next}
+use Rattle.firmware_rules.specs.Bytes.{wordOf, wordsAt}
+use Rattle.firmware_rules.proofs.Words.{words-length, words-more, fill-next}
 use borrow.Author.Needs.{needs}
 use Rattle.firmware.proofs.grants_of.Statement.{statement}
 use Rattle.firmware.proofs.grants_of.Tie as tie

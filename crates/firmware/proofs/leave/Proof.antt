@@ -1,6 +1,6 @@
 -- A refusal leaves the bytes, any other answer the record's. Assumes nothing.
 use mathlib.Core.Path.{_≡_, refl, sym, _∙_}
-use Rattle.firmware.specs.Calls.{leftBy}
+use Rattle.firmware_rules.specs.Calls.{leftBy}
 use borrow.Author.Needs.{needs}
 use Rattle.firmware.proofs.leave.Statement.{statement}
 use Rattle.firmware.proofs.leave.Tie as tie

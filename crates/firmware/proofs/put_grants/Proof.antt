@@ -8,8 +8,8 @@ use lib.ListN.{length, take, getD}
 use lib.Seq.{take-all}
 use Rattle.fields.specs.Places.{putAt}
 use Rattle.fields.proofs.Rooms.{put-nothing, length-put}
-use Rattle.firmware.specs.Bytes.{bytesOf}
-use Rattle.firmware.proofs.Words.{puts-next}
+use Rattle.firmware_rules.specs.Bytes.{bytesOf}
+use Rattle.firmware_rules.proofs.Words.{puts-next}
 use borrow.Author.Needs.{needs}
 use Rattle.firmware.proofs.put_grants.Statement.{statement}
 use Rattle.firmware.proofs.put_grants.Tie as tie

@@ -6,7 +6,7 @@ use lib.ListN.{length-set}
 use lib.Seq.{sets-eq}
 use mathlib.Core.Path.{_≡_, sym, _∙_}
 use Rattle.fields.proofs.Rooms.{put-fits}
-use Rattle.firmware.specs.Bytes.{bytesIn}
+use Rattle.firmware_rules.specs.Bytes.{bytesIn}
 use borrow.Author.Needs.{needs}
 use Rattle.firmware.proofs.put_word.Statement.{statement}
 use Rattle.firmware.proofs.put_word.Tie as tie

@@ -2,8 +2,8 @@
 use mathlib.Core.Path.{refl, sym, _∙_}
 use denote.Ref.{now}
 use Rattle.recorder_rules.specs.Recorder.{driveOf}
-use Rattle.firmware.specs.Calls.{driveCall}
-use Rattle.firmware.proofs.Calls.{size, goes, refused}
+use Rattle.firmware_rules.specs.Calls.{driveCall}
+use Rattle.firmware_rules.proofs.Calls.{size, goes, refused}
 use borrow.Author.Needs.{needs}
 use Rattle.firmware.proofs.recorder_drive.Statement.{statement}
 use Rattle.firmware.proofs.recorder_drive.Tie as tie

@@ -1,7 +1,7 @@
 -- The eight bytes, the low one first. Assumes nothing.
 use native.Mathlib.Omega.{arith}
 use denote.Ref.{now}
-use Rattle.firmware.proofs.Words.{word-bytes}
+use Rattle.firmware_rules.proofs.Words.{word-bytes}
 use borrow.Author.Needs.{needs}
 use Rattle.firmware.proofs.word_at.Statement.{statement}
 use Rattle.firmware.proofs.word_at.Tie as tie

@@ -10,8 +10,8 @@ use Rattle.words.proofs.Said.{none-applies}
 use Rattle.settings.specs.declared.Settings.{Settings}
 use Rattle.messages.specs.Outcomes.{Outcome}
 use Rattle.recorder_rules.specs.declared.Recorder.{Recorder}
-use Rattle.firmware.specs.Bytes.{decoded}
-use Rattle.firmware.specs.Calls.{callRefusals, leftBy, called}
+use Rattle.firmware_rules.specs.Bytes.{decoded}
+use Rattle.firmware_rules.specs.Calls.{callRefusals, leftBy, called}
 
 module _ (s : Settings) (bytes : List ℕ) where
   pub size : first (callRefusals s bytes) ≡ 0 → length bytes ≡ 680

@@ -14,9 +14,9 @@ use Rattle.words.proofs.Booleans.{both-hold}
 use Rattle.words.proofs.Walks.{every-drop}
 use Rattle.recorder_rules.specs.declared.Recorder.{Recorder}
 use Rattle.recorder_rules.specs.Claims.{Sized}
-use Rattle.firmware.specs.Bytes.{wordOf, bytesIn, wordsAt, bytesOf, numbersOf, recordOf, decoded, encoded}
-use Rattle.firmware.specs.Claims.{isByte, isWord, BytesComeBack, RecordComesBack}
-use Rattle.firmware.proofs.Words.{bytes-length, words-bytes-length, words-length}
+use Rattle.firmware_rules.specs.Bytes.{wordOf, bytesIn, wordsAt, bytesOf, numbersOf, recordOf, decoded, encoded}
+use Rattle.firmware_rules.specs.Claims.{isByte, isWord, BytesComeBack, RecordComesBack}
+use Rattle.firmware_rules.proofs.Words.{bytes-length, words-bytes-length, words-length}
 
 -- ---- one word
 

@@ -8,7 +8,7 @@ use Rattle.words.specs.Tests.{_<?_}
 use Rattle.words.specs.Lists.{every}
 use Rattle.recorder_rules.specs.declared.Recorder.{Recorder}
 use Rattle.recorder_rules.specs.Claims.{Sized}
-use Rattle.firmware.specs.Bytes.{numbersOf, decoded, encoded}
+use Rattle.firmware_rules.specs.Bytes.{numbersOf, decoded, encoded}
 
 -- what a byte and a word can hold
 abbrev pub isByte : ℕ → Bool

@@ -14,7 +14,7 @@ use Rattle.messages.specs.Answers.{Spoken, message, wordWith}
 use Rattle.messages.specs.Outcomes.{Outcome}
 use Rattle.recorder_rules.specs.declared.Recorder.{Recorder}
 use Rattle.recorder_rules.specs.Recorder.{tickOf, grantOf, driveOf}
-use Rattle.firmware.specs.Bytes.{decoded, encoded}
+use Rattle.firmware_rules.specs.Bytes.{decoded, encoded}
 
 -- the settings, in document 01's order
 abbrev pub given : List ℕ → Settings

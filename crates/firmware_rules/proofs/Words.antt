@@ -11,7 +11,7 @@ use Rattle.fields.specs.Places.{putAt}
 use Rattle.fields.proofs.Rooms.{put-fits, put-more}
 use Rattle.recorder_rules.specs.declared.Recorder.{Recorder}
 use Rattle.recorder_rules.specs.Recorder.{lastSend, lastReading, openLeases}
-use Rattle.firmware.specs.Bytes.{wordOf, bytesIn, wordsAt, bytesOf, encoded}
+use Rattle.firmware_rules.specs.Bytes.{wordOf, bytesIn, wordsAt, bytesOf, encoded}
 
 -- one byte of a part
 byte-more : (b : List ℕ) (at k : ℕ) → at < length b → take (suc k) (drop at b) ≡ getD b at 0 ∷ take k (drop (at + 1) b)
