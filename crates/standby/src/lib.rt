@@ -88,7 +88,7 @@ fn kept_marks(places: [Place; 16]) -> [bool; 16]
     marks
 }
 
-// The form of document 01, its conditions in the order of specs/Standby.antt.
+// The form of document 01, its conditions in the order of the definition, `form`.
 fn has_form(s: Settings, q: Standby) -> bool
     ensures { λ r. ⌜ r ≡ hasForm s q ⌝ }
 {
