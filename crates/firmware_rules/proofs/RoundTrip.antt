@@ -1,14 +1,13 @@
 -- Bytes to words and back, words to a record and back. Assumes nothing.
-use Prim.Native.Nat.{ℕ, zero, suc, _+_, _*_, _/_, _%_, _^_, _≤_, _<_}
+use Prim.Native.Nat.{ℕ, zero, suc, _+_, _*_, _/_, _%_, _^_, _<_}
 use native.Mathlib.Nat.{pow-suc, div-lt-iff-lt-mul}
 use native.Mathlib.Omega.{arith}
 use mathlib.Core.Path.{_≡_, refl, sym, ap, ap₂, _∙_}
-use mathlib.Core.Bool.{Bool, true, _&&_}
+use mathlib.Core.Bool.{Bool, true}
 use mathlib.Core.List.{List, [], _∷_, _++_}
 use lib.ListN.{length, take, drop, length-append, length-drop, take-append-drop}
 use lib.Seq.{length-take-le, take-append-seam, drop-append-seam}
 use borrow.Author.Tests.{ltb-true}
-use Rattle.words.specs.Tests.{_<?_}
 use Rattle.words.specs.Lists.{every}
 use Rattle.words.proofs.Booleans.{both-hold}
 use Rattle.words.proofs.Walks.{every-drop}
@@ -16,7 +15,7 @@ use Rattle.recorder_rules.specs.declared.Recorder.{Recorder}
 use Rattle.recorder_rules.specs.Claims.{Sized}
 use Rattle.firmware_rules.specs.Bytes.{wordOf, bytesIn, wordsAt, bytesOf, numbersOf, recordOf, decoded, encoded}
 use Rattle.firmware_rules.specs.Claims.{isByte, isWord, BytesComeBack, RecordComesBack}
-use Rattle.firmware_rules.proofs.Words.{bytes-length, words-bytes-length, words-length}
+use Rattle.firmware_rules.proofs.Words.{bytes-length, words-length}
 
 -- ---- one word
 

@@ -3,18 +3,15 @@
 use Prim.Native.Nat.{ℕ, _<_}
 use native.Mathlib.Omega.{arith}
 use mathlib.Core.Path.{_≡_, refl, sym}
-use mathlib.Core.Logic.{_⊎_, inl, inr}
 use mathlib.Core.Bool.{Bool, true, false, _&&_, not}
 use mathlib.Core.List.{List, [], _∷_, _++_}
 use borrow.Author.Tests.{ltb-true, eqb-true, eqb-false, eq-eqb, ne-eqb}
 use Rattle.words.specs.Tests.{if_then_else_, _<?_, _=?_}
 use Rattle.words.specs.Lists.{every}
-use Rattle.words.specs.Said.{Said, Refusal, first}
-use Rattle.words.specs.Said.Said.{gives}
+use Rattle.words.specs.Said.{Refusal, first}
 use Rattle.words.proofs.Booleans.{both-hold, not-both}
 use Rattle.words.proofs.Conditions.{chosen}
-use Rattle.messages.specs.Answers.{Spoken, refuses}
-use Rattle.messages.specs.Answers.Spoken.{wordWith}
+use Rattle.messages.specs.Answers.{refuses}
 use Rattle.messages.specs.Outcomes.{Outcome, _leaving_, unlessRefused}
 
 module _ {R : Type 0} (table : List Refusal) (rec : R) (step : Outcome R) where
@@ -23,14 +20,6 @@ module _ {R : Type 0} (table : List Refusal) (rec : R) (step : Outcome R) where
       → Q (unlessRefused table rec step)
   unfolding unlessRefused
   either-way Q refused done = chosen Q (first table =? 0) (λ none. done (eqb-true _ 0 none)) (λ some. refused (eqb-false _ 0 some))
-
-  -- nothing applies and the outcome is the step's, or a refusal does and the record is as it came
-  pub taken-apart : ((first table ≡ 0) × (unlessRefused table rec step ≡ step))
-      ⊎ ((first table ≡ 0 → ⊥) × (unlessRefused table rec step ≡ (refuses (first table) leaving rec)))
-  taken-apart =
-      either-way
-      (λ outcome. ((first table ≡ 0) × (outcome ≡ step)) ⊎ ((first table ≡ 0 → ⊥) × (outcome ≡ (refuses (first table) leaving rec))))
-      (λ some. inr (some, refl)) (λ none. inl (none, refl))
 
   pub not-refused : first table ≡ 0 → unlessRefused table rec step ≡ step
   unfolding unlessRefused
@@ -66,7 +55,3 @@ never-given k (r ∷ rs) h lines e =
     by : (b : Bool) {l : ℕ} → not ((r .no =? k) && b) ≡ true → (l ≡ k → ⊥) → (if b then r .no else l) ≡ k → ⊥
     by true this rest e = let same = rw (eq-eqb _ k e) at this in not-both same refl
     by false this rest e = rest e
-
--- answers that are the same say the same word
-pub same-word : {w w′ values values′ : List ℕ} → _≡_ {A = Said Spoken} (gives (wordWith w values)) (gives (wordWith w′ values′)) → w ≡ w′
-same-word e = cc

@@ -1,6 +1,6 @@
 -- What a step that is neither refused nor stops says of the leases, by their numbers: those still open are young, those no
 -- longer open had their grants before the event, and each keeps the reading at which it was sent. Assumes nothing.
-use Prim.Native.Nat.{ℕ, suc, _+_, _-_, _≤_, _<_}
+use Prim.Native.Nat.{ℕ, _+_, _-_, _≤_, _<_}
 use native.Mathlib.Omega.{arith}
 use mathlib.Core.Path.{_≡_, refl, sym, ap, _∙_}
 use mathlib.Core.Logic.{_⊎_, inl, inr, ⊎-elim}
@@ -9,23 +9,22 @@ use mathlib.Core.List.{List, [], _∷_, _++_}
 use lib.ListN.{length, getD, set, length-append, List·getD-append}
 use lib.Seq.{getD-drop, getD-append-seam}
 use Rattle.words.specs.Tests.{if_then_else_, _<?_}
-use Rattle.words.specs.Said.{Said, first, number}
+use Rattle.words.specs.Said.{first, number}
 use Rattle.words.proofs.Conditions.{chosen}
 use Rattle.settings.specs.declared.Settings.{Settings}
-use Rattle.settings.specs.Settings.{η, P, refusalOf}
+use Rattle.settings.specs.Settings.{η, P}
 use Rattle.settings.specs.Quorums.{survives}
 use Rattle.settings.proofs.Laws.{accepted-in-range}
 use Rattle.messages.specs.declared.Message.the-variants.{LeaseRequest}
-use Rattle.messages.specs.Answers.{Spoken, sends as sending, refuses, says}
+use Rattle.messages.specs.Answers.{sends as sending, refuses, says}
 use Rattle.messages.specs.Outcomes.{Outcome, _leaving_}
-use Rattle.messages.proofs.Outcomes.{same-word}
 use Rattle.recorder_rules.specs.declared.Recorder.{Recorder}
-use Rattle.recorder_rules.specs.Recorder.{lastSend, lastReading, leases, oldest, granted, kept, lacking, advanced, due, requesting, higher, registered, standing, tickEvent, grantEvent, driveEvent, stepOf, Event}
+use Rattle.recorder_rules.specs.Recorder.{lastSend, lastReading, leases, oldest, granted, kept, lacking, advanced, due, requesting, higher, standing, tickEvent, grantEvent, driveEvent, stepOf, Event}
 use Rattle.recorder_rules.specs.Recorder.Event.{tick, grant, drive}
 use Rattle.recorder_rules.specs.Claims.{Sized}
 use Rattle.recorder_rules.proofs.Formed.{Formed, has-form}
-use Rattle.recorder_rules.proofs.Spacing.{spaced-at, ended, kept-length, kept-newest, ended-first}
-use Rattle.recorder_rules.proofs.Room.{leases-length, leases-last, room-advanced}
+use Rattle.recorder_rules.proofs.Spacing.{ended, kept-length, kept-newest, ended-first}
+use Rattle.recorder_rules.proofs.Room.{leases-length, room-advanced}
 use Rattle.recorder_rules.proofs.Placing.{placed-back}
 use Rattle.recorder_rules.proofs.Grants.{after-store}
 use Rattle.recorder_rules.proofs.Lacking.{ended-granted}
@@ -67,20 +66,6 @@ module _ (s : Settings) (rec : Recorder) (r : ℕ) (event : Event) where
 
   pub going : Passes s rec r event → stepOf s rec r event .rec .stopped ≡ 0 → Going s rec r event
   going passes on = ⊎-elim (λ w. absurd (w .1 on)) (λ g. g) (stopped-or-going passes)
-
-  -- the same by the answer: no refusal, and not *stopped*
-  pub going-by-answer : number (stepOf s rec r event .answer) ≡ 0 → (stepOf s rec r event .answer ≡ says "stopped" → ⊥) → Going s rec r event
-  unfolding number
-  going-by-answer given other =
-      each-way s rec r event
-      (λ outcome. number (outcome .answer) ≡ 0 → (outcome .answer ≡ says "stopped" → ⊥) → stepOf s rec r event ≡ outcome → Going s rec r event)
-      (record {
-        refused = λ fails given _ _. absurd (fails given);
-        stopped = λ _ _ _ other _. absurd (other refl);
-        stopping = λ _ _ _ _ other _. absurd (other refl);
-        going-on = λ p running goes _ _ same. record { passes = p; running = running; not-lacking = goes; outcome = same };
-      })
-      given other refl
 
 -- the record after it, where no request is sent
 pub record Quiet (s : Settings) (rec : Recorder) (r : ℕ) (outcome : Outcome Recorder) : Type 0 where
@@ -148,21 +133,6 @@ module _ (s : Settings) (rec : Recorder) (f : Formed s rec) (sized : Sized rec) 
   open-place : (i : ℕ) → IsOpen rec i → i - oldest rec < length (leases rec)
   open-place i is-open = let counted = leases-length s rec (sized .sends) f in omega (arith, f .leases-counter)
 
-  -- the newest was sent at the last send
-  pub sent-last : 1 ≤ rec .counter → sentAt rec (rec .counter) ≡ lastSend rec
-  sent-last some =
-      let counted = leases-length s rec (sized .sends) f in
-      let some-lease = f .some-lease some in
-      let last : rec .counter - oldest rec ≡ length (leases rec) - 1 = omega (arith, f .leases-counter) in
-      rw last (leases-last s rec (sized .sends) f some-lease)
-
-  pub sent-apart : refusalOf s ≡ 0 → (i : ℕ) → oldest rec ≤ i → i + 1 ≤ rec .counter → sentAt rec i + η s ≤ sentAt rec (i + 1)
-  sent-apart accepted i h top =
-      let place : i + 1 - oldest rec ≡ suc (i - oldest rec) = omega arith in
-      rw place
-      (spaced-at (η s) (accepted-in-range s accepted .η-least) (leases rec) (f .apart) (i - oldest rec)
-      (rw place at (open-place (i + 1) (omega arith, top))))
-
   pub sent-young : rec .stopped ≡ 0 → (i : ℕ) → IsOpen rec i → lastReading rec - sentAt rec i < P s
   sent-young running i is-open = f .youth running (i - oldest rec) (open-place i is-open)
 
@@ -195,9 +165,6 @@ module _ (s : Settings) (rec : Recorder) (r : ℕ) (event : Event) (sized : Size
       ⊎-elim (λ q. omega (arith, ok .form .leases-counter, q .counter, ap length (q .leases)))
       (λ a. omega (arith, ok .form .leases-counter, a .1 .counter, ap length (a .1 .leases), length-append (kept s r (leases rec)) (r ∷ [])))
       leaves
-
-  pub young-after : (i : ℕ) → IsOpen (next .rec) i → r - sentAt (next .rec) i < P s
-  young-after i is-open = rw reading-after at (sent-young s (next .rec) (good .form) (good .size) running-after i is-open)
 
   -- a lease no longer open: t observers had granted the next number, before the event
   pub closed-granted : (i : ℕ) → oldest rec ≤ i → i < oldest (next .rec) → survives s (granted rec (i + 1)) ≡ true
@@ -262,24 +229,3 @@ place-after s rec r event y =
     by tick = inl (chosen (λ (outcome : Outcome Recorder). getD (outcome .rec .grants) y 0 ≡ getD (rec .grants) y 0) (due s rec r) (λ _. refl) (λ _. refl))
     by (grant x j) = stored x j (getD (rec .grants) x 0 <? j) _ refl (after-store (rec .grants) x (higher (getD (rec .grants) x 0) j) y)
     by drive = inl refl
-
--- *running* is said only by a step that goes on, and only of a registered recorder
-running-registered : (s : Settings) (rec : Recorder) → standing s rec ≡ says "running" → registered s rec ≡ true
-unfolding standing
-running-registered s rec =
-    chosen (λ (answer : Said Spoken). answer ≡ says "running" → registered s rec ≡ true) (registered s rec) (λ is _. is)
-    (λ _ same. let z : ⊥ = omega (arith, ap (λ (w : List ℕ). getD w 0 0) (same-word same)) in absurd z)
-
-pub going-by-running : (s : Settings) (rec : Recorder) (r : ℕ) (event : Event) → stepOf s rec r event .answer ≡ says "running" → Going s rec r event
-unfolding number
-going-by-running s rec r event e =
-    going-by-answer s rec r event (ap number e) (λ stopped. omega (arith, ap (λ (w : List ℕ). getD w 0 0) (same-word (sym e ∙ stopped))))
-
-pub registered-by-running : (s : Settings) (rec : Recorder) (r : ℕ) (event : Event) → Sized rec → stepOf s rec r event .answer ≡ says "running"
-    → registered s (stepOf s rec r event .rec) ≡ true
-registered-by-running s rec r event sized e =
-    by (leaves s rec r event sized (going-by-running s rec r event e))
-  where
-    by : Quiet s rec r (stepOf s rec r event) ⊎ ((event ≡ tick) × Asking s rec r (stepOf s rec r event)) → registered s (stepOf s rec r event .rec) ≡ true
-    by (inl q) = running-registered s (stepOf s rec r event .rec) (sym (q .answer) ∙ e)
-    by (inr a) = let z : _≡_ {A = ℕ} 0 1 = cc (sym (a .1 .answer) ∙ e) in let no : ⊥ = omega arith in absurd no

@@ -9,7 +9,7 @@ use mathlib.Core.List.{List, [], _∷_}
 use lib.Dec.{lit<}
 use lib.IntN.{ℤ, pos, _-ℤ_}
 use lib.ListN.{length, getD, drop, drop-of-length-le}
-use borrow.Author.Tests.{leb-true, ltb-false, le-ltb, not-false}
+use borrow.Author.Tests.{leb-true, ltb-false, not-false}
 use Rattle.words.specs.Tests.{_<?_, _≤?_}
 use Rattle.words.proofs.Booleans.{both-hold, neither-holds}
 use Rattle.words.proofs.Walks.{next}
@@ -136,14 +136,6 @@ accepted s e =
       b = ltb-false _ _ (sym (B-negative s) ∙ a-b .1);
       c = ltb-false _ _ (sym (C-negative s) ∙ ab-c .1);
     }
-
-pub accepts : (s : Settings) → inRange s ≡ true → Accepted s → refusalOf s ≡ 0
-unfolding refusalOf first
-accepts s range slack =
-    let a = A-negative s ∙ le-ltb _ _ (slack .a) in
-    let b = B-negative s ∙ le-ltb _ _ (slack .b) in
-    let c = C-negative s ∙ le-ltb _ _ (slack .c) in
-    rw (range, a, b, c)
 
 pub window-law : (s : Settings) → refusalOf s ≡ 0 → window s + 3 * rounding s + P s ≡ O s
 unfolding window

@@ -1,7 +1,6 @@
 -- The five numbers, the sends and the grants are the 85 words. Assumes nothing.
 use native.Mathlib.Omega.{arith}
-use mathlib.Core.Path.{_≡_, sym, ap, _∙_}
-use mathlib.Core.List.{List}
+use mathlib.Core.Path.{_≡_, ap, _∙_}
 use denote.Ref.{now}
 use lib.ListN.{take, drop}
 use Rattle.firmware_rules.specs.Bytes.{wordsAt, decoded}

@@ -1,10 +1,8 @@
 -- The five numbers, the sends and the grants are put behind one another. Assumes nothing.
-use native.Mathlib.Omega.{arith}
-use mathlib.Core.Path.{_≡_, sym, ap, _∙_}
+use mathlib.Core.Path.{_∙_}
 use denote.Ref.{now}
 use lib.ListN.{length}
 use Rattle.recorder.proofs.Places.{sized}
-use Rattle.fields.proofs.Rooms.{length-put}
 use Rattle.firmware_rules.proofs.Words.{record-put}
 use borrow.Author.Needs.{needs}
 use Rattle.firmware.proofs.encode.Statement.{statement}

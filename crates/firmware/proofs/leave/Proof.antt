@@ -1,5 +1,5 @@
 -- A refusal leaves the bytes, any other answer the record's. Assumes nothing.
-use mathlib.Core.Path.{_≡_, refl, sym, _∙_}
+use mathlib.Core.Path.{refl}
 use Rattle.firmware_rules.specs.Calls.{leftBy}
 use borrow.Author.Needs.{needs}
 use Rattle.firmware.proofs.leave.Statement.{statement}
