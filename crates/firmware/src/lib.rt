@@ -10,10 +10,11 @@ ghost use Prim.Native.Nat.{_+_, _≤_, _<_};
 ghost use lib.ListN.{length, take, drop};
 ghost use Rattle.words.specs.Said.{first};
 ghost use Rattle.fields.specs.Places.{putAt};
-ghost use Rattle.messages.specs.Answers.{said};
+ghost use Rattle.settings.specs.Settings.{settingsOf};
+ghost use Rattle.messages.specs.Answers.{said, isRefusal};
 ghost use Rattle.recorder.specs.Outcome.{outcome};
 ghost use Rattle.firmware_rules.specs.Bytes.{wordOf, bytesIn, wordsAt, bytesOf, decoded, encoded};
-ghost use Rattle.firmware_rules.specs.Calls.{given, codeOf, isRefusal, callRefusals, leftBy, tickCall, grantCall, driveCall};
+ghost use Rattle.firmware_rules.specs.Calls.{codeOf, callRefusals, leftBy, tickCall, grantCall, driveCall};
 
 fn wide(byte: u8) -> u64
     ensures { λ r. ⌜ (r ≡ byte) × (r < 256) ⌝ }
@@ -23,7 +24,7 @@ fn wide(byte: u8) -> u64
 
 // The settings in document 01's order.
 fn settings_of(v: &[u64; 7]) -> Settings
-    ensures { λ r. ⌜ r ≡ given (now (v .entry)) ⌝ }
+    ensures { λ r. ⌜ r ≡ settingsOf (now (v .entry)) ⌝ }
 {
     Settings {
         observers: v[0],
@@ -228,7 +229,7 @@ fn leave(b: &mut [u8], done: Stepped) -> u32
 
 #[no_mangle]
 pub extern "C" fn recorder_tick(settings: &[u64; 7], reading: u64, buffer: &mut [u8]) -> u32
-    ensures { λ r. ⌜ (r ≡ tickCall (given (now (settings .entry))) reading (now (buffer .entry)) .code) × (now (buffer .exit) ≡ tickCall (given (now (settings .entry))) reading (now (buffer .entry)) .bytes) ⌝ }
+    ensures { λ r. ⌜ (r ≡ tickCall (settingsOf (now (settings .entry))) reading (now (buffer .entry)) .code) × (now (buffer .exit) ≡ tickCall (settingsOf (now (settings .entry))) reading (now (buffer .entry)) .bytes) ⌝ }
 {
     let s = settings_of(settings);
     let refused = call_refusal(s, &buffer[..]);
@@ -247,7 +248,7 @@ pub extern "C" fn recorder_grant(
     number: u64,
     buffer: &mut [u8],
 ) -> u32
-    ensures { λ r. ⌜ (r ≡ grantCall (given (now (settings .entry))) reading observer number (now (buffer .entry)) .code) × (now (buffer .exit) ≡ grantCall (given (now (settings .entry))) reading observer number (now (buffer .entry)) .bytes) ⌝ }
+    ensures { λ r. ⌜ (r ≡ grantCall (settingsOf (now (settings .entry))) reading observer number (now (buffer .entry)) .code) × (now (buffer .exit) ≡ grantCall (settingsOf (now (settings .entry))) reading observer number (now (buffer .entry)) .bytes) ⌝ }
 {
     let s = settings_of(settings);
     let refused = call_refusal(s, &buffer[..]);
@@ -263,7 +264,7 @@ pub extern "C" fn recorder_grant(
 
 #[no_mangle]
 pub extern "C" fn recorder_drive(settings: &[u64; 7], reading: u64, buffer: &mut [u8]) -> u32
-    ensures { λ r. ⌜ (r ≡ driveCall (given (now (settings .entry))) reading (now (buffer .entry)) .code) × (now (buffer .exit) ≡ driveCall (given (now (settings .entry))) reading (now (buffer .entry)) .bytes) ⌝ }
+    ensures { λ r. ⌜ (r ≡ driveCall (settingsOf (now (settings .entry))) reading (now (buffer .entry)) .code) × (now (buffer .exit) ≡ driveCall (settingsOf (now (settings .entry))) reading (now (buffer .entry)) .bytes) ⌝ }
 {
     let s = settings_of(settings);
     let refused = call_refusal(s, &buffer[..]);

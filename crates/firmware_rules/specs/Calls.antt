@@ -1,24 +1,20 @@
 -- What a C call returns and what it leaves in the buffer, for every buffer.
 use Prim.Native.Nat.{ℕ}
-use mathlib.Core.Bool.{Bool, true, false, not}
+use mathlib.Core.Bool.{not}
 use mathlib.Core.List.{List, [], _∷_, _++_}
-use lib.ListN.{length, getD}
+use lib.ListN.{length}
 use Rattle.words.specs.Tests.{if_then_else_, _=?_}
 use Rattle.words.specs.Lists.{text}
 use Rattle.words.specs.Said.{Said, Refusal, first, _when_}
 use Rattle.words.specs.Said.Said.{refusal, gives}
 use Rattle.settings.specs.declared.Settings.{Settings}
-use Rattle.settings.specs.Settings.{settings, refusals}
+use Rattle.settings.specs.Settings.{refusals}
 use Rattle.fields.specs.Places.{isExactly}
-use Rattle.messages.specs.Answers.{Spoken, message, wordWith}
+use Rattle.messages.specs.Answers.{Spoken, message, wordWith, isRefusal}
 use Rattle.messages.specs.Outcomes.{Outcome}
 use Rattle.recorder_rules.specs.declared.Recorder.{Recorder}
 use Rattle.recorder_rules.specs.Recorder.{tickOf, grantOf, driveOf}
 use Rattle.firmware_rules.specs.Bytes.{decoded, encoded}
-
--- the settings, in document 01's order
-abbrev pub given : List ℕ → Settings
-given v = settings (getD v 0 0) (getD v 1 0) (getD v 2 0) (getD v 3 0) (getD v 4 0) (getD v 5 0) (getD v 6 0)
 
 -- the number returned, and every byte afterwards
 pub record Called : Type 0 where
@@ -33,10 +29,6 @@ codeOf (gives (wordWith w values)) =
     if isExactly (text "unregistered") w then 100
     else if isExactly (text "running") w then 101
     else 102
-
-unfoldable pub isRefusal : Said Spoken → Bool
-isRefusal (refusal k) = true
-isRefusal (gives a) = false
 
 -- "A recorder buffer of another size holds no record: after 1 and 2 it gets 10."
 abbrev pub callRefusals : Settings → List ℕ → List Refusal

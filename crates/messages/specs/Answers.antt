@@ -1,6 +1,7 @@
 -- What each answer of a step says: 01's number of the refusal, or 0 with the message to be sent, or one word with its values.
 use Prim.Native.Nat.{ℕ}
 use Prim.Native.String.{String}
+use mathlib.Core.Bool.{Bool, true, false}
 use mathlib.Core.List.{List, [], _∷_, map}
 use mathlib.Core.Path.{_≡_}
 use Rattle.words.specs.Lists.{text}
@@ -42,6 +43,11 @@ said Late = says "late"
 said Unknown = says "unknown"
 said (Dead m) = saysOf "dead" m
 said (Alive m) = saysOf "alive" m
+
+-- a refusal, whatever its number
+unfoldable pub isRefusal : Said Spoken → Bool
+isRefusal (refusal k) = true
+isRefusal (gives a) = false
 
 -- the words and numbers of an answer as they stand in its line, behind the 0; a refusal has its number alone
 unfoldable pub spokenFields : Said Spoken → List Field

@@ -6,11 +6,11 @@ use observer::Stepped;
 use observer_rules::Observer;
 use settings::Settings;
 ghost use mathlib.Core.Path.{_≡_};
-ghost use Rattle.messages.specs.Answers.{said};
+ghost use Rattle.messages.specs.Answers.{said, isRefusal};
 ghost use Rattle.messages.specs.Outcomes.{_leaving_};
 ghost use Rattle.observer_rules.specs.Observer.{Store, store, atReading, requestOf, cutOf, checkOf};
 ghost use Rattle.observer.specs.Outcome.{outcome};
-ghost use Rattle.observer_lent.specs.Left.{refused, left};
+ghost use Rattle.observer_lent.specs.Left.{left};
 
 fn store_deadline(o: &mut Observer, deadline: u64)
     ensures { λ _. ⌜ now (o .exit) ≡ store (Store.deadline deadline) (now (o .entry)) ⌝ }
@@ -31,7 +31,7 @@ fn set_last_reading(o: &mut Observer, reading: u64)
 }
 
 fn is_refusal(answer: Answer) -> bool
-    ensures { λ r. ⌜ r ≡ refused (said answer) ⌝ }
+    ensures { λ r. ⌜ r ≡ isRefusal (said answer) ⌝ }
 {
     match answer {
         Answer::Refused(_) => true,

@@ -3,6 +3,7 @@ use Prim.Native.Nat.{ℕ, _*_, _-_, _≤_}
 use mathlib.Core.Bool.{Bool, true, _&&_, _||_, not}
 use mathlib.Core.List.{List, [], _∷_}
 use lib.IntN.{ℤ, pos, _-ℤ_}
+use lib.ListN.{getD}
 use lib.Signed.{ltZ}
 use Rattle.words.specs.Tests.{_≤?_}
 use Rattle.words.specs.Said.{Refusal, first, _when_}
@@ -43,6 +44,10 @@ settings n t η Δ P O G =
       «observer_lease» = O;
       grain = G;
     }
+
+-- the same from the seven as they stand in a row
+abbrev pub settingsOf : List ℕ → Settings
+settingsOf v = settings (getD v 0 0) (getD v 1 0) (getD v 2 0) (getD v 3 0) (getD v 4 0) (getD v 5 0) (getD v 6 0)
 
 -- the settings of 01's whole case: W = 49, slacks 0, 0, 6241
 abbrev pub usual : Settings

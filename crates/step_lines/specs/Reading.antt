@@ -7,8 +7,7 @@ use Rattle.words.specs.Tests.{if_then_else_}
 use Rattle.words.specs.Lists.{text}
 use Rattle.fields.specs.Places.{begins, isExactly}
 use Rattle.messages.specs.declared.Status.the-variants.{Alive, Dead}
-use Rattle.settings.specs.declared.Settings.{Settings}
-use Rattle.settings.specs.Settings.{settings}
+use Rattle.settings.specs.Settings.{settingsOf}
 use Rattle.step_lines.specs.declared.Row.{Row}
 use Rattle.step_lines.specs.declared.StepLine.{StepLine}
 use Rattle.step_lines.specs.declared.StepLine.the-variants.{Recorder, Observer, Standby, Bad}
@@ -32,11 +31,8 @@ unfoldable pub closedBy : List ℕ → List ℕ → Row → Bool
 closedBy end s v = v .good && isExactly end (behindRow s v)
 
 -- `SETTINGS` with the seven numbers
-abbrev pub settingsOf : Row → Settings
-settingsOf v = settings (at v 0) (at v 1) (at v 2) (at v 3) (at v 4) (at v 5) (at v 6)
-
 unfoldable pub settingsNumbers : List ℕ → Row → SettingsLine
-settingsNumbers s v = if closedBy (text "\n") s v then Given (settingsOf v) else NoSettings
+settingsNumbers s v = if closedBy (text "\n") s v then Given (settingsOf (v .numbers)) else NoSettings
 
 unfoldable pub settingsLine : List ℕ → SettingsLine
 settingsLine s = if begins (text "SETTINGS") s then settingsNumbers (drop 8 s) (row (drop 8 s) 7) else NoSettings

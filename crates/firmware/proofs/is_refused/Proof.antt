@@ -1,7 +1,6 @@
 -- Only a refusal is one. Assumes nothing.
 use mathlib.Core.Path.{refl}
-use Rattle.messages.specs.Answers.{said}
-use Rattle.firmware_rules.specs.Calls.{isRefusal}
+use Rattle.messages.specs.Answers.{said, isRefusal}
 use borrow.Author.Needs.{needs}
 use Rattle.firmware.proofs.is_refused.Statement.{statement}
 use Rattle.firmware.proofs.is_refused.Tie as tie

@@ -8,9 +8,8 @@ use borrow.Author.Needs.{needs}
 use denote.Enum.Declared.{tagOf}
 use Rattle.messages.specs.declared.Answer.{Answer}
 use Rattle.messages.specs.declared.Answer.the-variants.{Refused, Send, Unregistered, Running, Stopped, Silent, Cut, Waiting, Late, Unknown, Dead, Alive}
-use Rattle.messages.specs.Answers.{said}
+use Rattle.messages.specs.Answers.{said, isRefusal}
 use Rattle.messages.proofs.Answer as N
-use Rattle.observer_lent.specs.Left.{refused}
 use Rattle.observer_lent.proofs.is_refusal.Statement.{statement}
 use Rattle.observer_lent.proofs.is_refusal.Tie as tie
 
@@ -18,14 +17,14 @@ enum-told : tie.Need-enum-told
 enum-told c = search needs
 
 returns : tie.Need-returns
-unfolding refused said
+unfolding isRefusal said
 returns c = rw (c .enum-told .given .1)
 
 abbrev others : List ℕ
 others = 1 ∷ 2 ∷ 3 ∷ 4 ∷ 5 ∷ 6 ∷ 7 ∷ 8 ∷ 9 ∷ 10 ∷ 11 ∷ []
 
-no-refusal : (a : Answer) → OneOf others (tagOf N.the-type a) → false ≡ refused (said a)
-unfolding refused said
+no-refusal : (a : Answer) → OneOf others (tagOf N.the-type a) → false ≡ isRefusal (said a)
+unfolding isRefusal said
 no-refusal (Refused k) h = absurd (miss others 0 tt h)
 no-refusal (Send m) h = refl
 no-refusal Unregistered h = refl

@@ -41,7 +41,7 @@ use denote.Triple.Table.{entered, cited}
 use denote.Triple.Walked.{says, Stays, stay-ref, stay-none, walkOf, AllGo, goes-none, goes-ref, Walks, ends-at, walked, walk-meets}
 use denote.Exit.{yes}
 use Rattle.words.specs.Tests.{if_then_else_}
-use Rattle.messages.specs.Answers.{said}
+use Rattle.messages.specs.Answers.{said, isRefusal}
 use Rattle.messages.proofs.Answer as N
 use Rattle.messages.proofs.Answer.Laws as N′
 use Rattle.observer_rules.specs.declared.Observer.{Observer}
@@ -51,7 +51,7 @@ use Rattle.observer_rules.specs.Observer.Store.{deadline, latest}
 use Rattle.observer_rules.proofs.Observer as T
 use Rattle.observer.proofs.Stepped as D
 use Rattle.observer.proofs.Stepped.Laws as D′
-use Rattle.observer_lent.specs.Left.{refused, left}
+use Rattle.observer_lent.specs.Left.{left}
 use Rattle.observer_lent.proofs.Record.{bounds, answer-is, rec-is}
 use Rattle.observer_lent.proofs.store_deadline as store-deadline
 use Rattle.observer_lent.proofs.store_deadline.Symbol as store-deadline-def
@@ -166,8 +166,8 @@ module _ {M : Type 1} (𝓤 : URA M) (H : Heap 𝓤) (A : Atoms 𝓤) (W : Given
         owned ! N.the-row (Is N.the-row) (LE.makes N.the-type N′.the-plain 𝓤 H A) (d .answer) _ (answer-is d vD g) $ move ! (1 ∷ 0 ∷ []) $ done !
 
     module _ (C : Calls 𝓤 H) (Λ : Loops 𝓤 H) (fm : FmC 𝓤 H (W .laws) C) (known-store-deadline : Triple 𝓤 (C #store-deadline) (of-store-deadline 𝓤 H A at-mem run)) (known-store-latest : Triple 𝓤 (C #store-latest) (of-store-latest 𝓤 H A at-mem run)) (known-set-last-reading : Triple 𝓤 (C #set-last-reading) (of-set-last-reading 𝓤 H A at-mem run)) (known-is-refusal : Triple 𝓤 (C #is-refusal) (of-is-refusal 𝓤 H A at-mem run)) where
-      heard-of : (y : Bool) → ent 𝓤 (ensured 𝓤 H A is-refusal.ended (is-refusal.clauses 𝓤 H A at-mem run) tt (d .answer, tt) tt y) (fact 𝓤 (y ≡ refused (said (d .answer))))
-      heard-of y = exE 𝓤 _ (λ ws. snd∗ 𝓤 (sem 𝓤 H A (lasts is-refusal.ended tt (d .answer, tt) ws)) (fact 𝓤 (y ≡ refused (said (d .answer)))))
+      heard-of : (y : Bool) → ent 𝓤 (ensured 𝓤 H A is-refusal.ended (is-refusal.clauses 𝓤 H A at-mem run) tt (d .answer, tt) tt y) (fact 𝓤 (y ≡ isRefusal (said (d .answer))))
+      heard-of y = exE 𝓤 _ (λ ws. snd∗ 𝓤 (sem 𝓤 H A (lasts is-refusal.ended tt (d .answer, tt) ws)) (fact 𝓤 (y ≡ isRefusal (said (d .answer)))))
 
       walk : ent 𝓤 (onEntry 𝓤 H A leave.signature (κ, tt) (q, tt) args at) (WpFn 𝓤 H C Λ code.function (vptr b o ∷ only vD ∷ []) Post)
       walk =
@@ -180,7 +180,7 @@ module _ {M : Type 1} (𝓤 : URA M) (H : Heap 𝓤) (A : Atoms 𝓤) (W : Given
           nothing ! $ use1 W (raw (of-is-refusal 𝓤 H A at-mem run .pre to-test)) goes-test $
           calls-at ! fm (of-is-refusal 𝓤 H A at-mem run) known-is-refusal to-test (and-then ! (load ! (from ! (stop !)) (look ! 15 refl)) (no-more !)) (λ v.
           use1 W (later (some (λ (y : Bool). (‵ ftrue ⊛ ‵ (Boolean .own y (v ∷ []))) ⊛ raw (ensured 𝓤 H A is-refusal.ended (is-refusal.clauses 𝓤 H A at-mem run) tt (d .answer, tt) tt y)))) (id⊢ 𝓤 _) $ await ! tt $ pick ! (λ y.
-          split ! $ move ! (1 ∷ []) $ use1 W (raw (fact 𝓤 (y ≡ refused (said (d .answer))))) (heard-of y) $ heard ! (y ≡ refused (said (d .answer))) (λ e. split ! $ drop ! $
+          split ! $ move ! (1 ∷ []) $ use1 W (raw (fact 𝓤 (y ≡ isRefusal (said (d .answer))))) (heard-of y) $ heard ! (y ≡ isRefusal (said (d .answer))) (λ e. split ! $ drop ! $
           peeks ! Boolean (Is Boolean) (shows 𝓤 H A Boolean) y (v ∷ []) (λ is.
           land ! (from ! (stop !)) (init ! 13 refl (subst (λ (u : Val). T (hasTy tyBool u) × WT u) (sym (ap only is)) (tt, tt))) $
           rewrite ! 13 (λ (u : Val). ‵ (fat fullShare tyBool l4 0 u)) (ap only is) refl $ drop ! $
@@ -189,7 +189,7 @@ module _ {M : Type 1} (𝓤 : URA M) (H : Heap 𝓤) (A : Atoms 𝓤) (W : Given
           (λ on. assigns ! (of-opd ! (load ! (from ! (stop !)) (look ! 14 refl))) (from ! (stop !)) (init ! 20 refl (LE.lawful N.the-type N′.the-laws 𝓤 H A W tt .typed (d .answer) _ (answer-is d vD g) .0)) $
           returns-within ! Post refl (look ! 20 refl) $ forget ! 12 refl $ forget ! 14 refl $ forget ! 16 refl $ forget ! 18 refl $ forget ! 20 refl $
           move ! (20 ∷ 21 ∷ []) $ free1 ! $ move ! (18 ∷ 19 ∷ []) $ free1 ! $ move ! (16 ∷ 17 ∷ []) $ free1 ! $ move ! (14 ∷ 15 ∷ []) $ free1 ! $ move ! (12 ∷ 13 ∷ []) $ free1 ! $ move ! (10 ∷ 11 ∷ []) $ free1 ! $ move ! (8 ∷ 9 ∷ []) $ free1 ! $ move ! (6 ∷ 7 ∷ []) $ free1 ! $ move ! (4 ∷ 5 ∷ []) $ free1 ! $ free0 ! $
-          keep ! (0 ∷ 1 ∷ []) $ by ! (exits h (kept y (refused (said (d .answer))) h (d .rec) e on)))
+          keep ! (0 ∷ 1 ∷ []) $ by ! (exits h (kept y (isRefusal (said (d .answer))) h (d .rec) e on)))
           -- any other answer: the stores
           (λ off. skips ! $ exec ! C Λ (placed parts.locals (l0 ∷ l1 ∷ l2 ∷ l3 ∷ l4 ∷ l5 ∷ l6 ∷ l7 ∷ l8 ∷ [])) parts.t-4 (atRet (placed parts.locals (l0 ∷ l1 ∷ l2 ∷ l3 ∷ l4 ∷ l5 ∷ l6 ∷ l7 ∷ l8 ∷ [])) Post) $
           -- store_deadline: the record is lent again for the call, and comes back with the field stored
@@ -231,7 +231,7 @@ module _ {M : Type 1} (𝓤 : URA M) (H : Heap 𝓤) (A : Atoms 𝓤) (W : Given
           assigns ! (of-opd ! (load ! (from ! (stop !)) (look ! 14 refl))) (from ! (stop !)) (init ! 20 refl (LE.lawful N.the-type N′.the-laws 𝓤 H A W tt .typed (d .answer) _ (answer-is d vD g) .0)) $
           returns ! (look ! 20 refl) $ forget ! 4 refl $ forget ! 6 refl $ forget ! 8 refl $ forget ! 10 refl $ forget ! 12 refl $ forget ! 14 refl $ forget ! 16 refl $ forget ! 18 refl $ forget ! 20 refl $
           move ! (20 ∷ 21 ∷ []) $ free1 ! $ move ! (18 ∷ 19 ∷ []) $ free1 ! $ move ! (16 ∷ 17 ∷ []) $ free1 ! $ move ! (14 ∷ 15 ∷ []) $ free1 ! $ move ! (12 ∷ 13 ∷ []) $ free1 ! $ move ! (10 ∷ 11 ∷ []) $ free1 ! $ move ! (8 ∷ 9 ∷ []) $ free1 ! $ move ! (6 ∷ 7 ∷ []) $ free1 ! $ move ! (4 ∷ 5 ∷ []) $ free1 ! $ free0 ! $
-          keep ! (0 ∷ 1 ∷ []) $ by ! (exits (ws3 .0) (replaced y (refused (said (d .answer))) h (d .rec) (ws3 .0) e off (all-stored (ws1 .0) (ws2 .0) (ws3 .0) e1 e2 e3))))))))))))))))))))))))))))))))))))))
+          keep ! (0 ∷ 1 ∷ []) $ by ! (exits (ws3 .0) (replaced y (isRefusal (said (d .answer))) h (d .rec) (ws3 .0) e off (all-stored (ws1 .0) (ws2 .0) (ws3 .0) e1 e2 e3))))))))))))))))))))))))))))))))))))))
 
 module _ {M : Type 1} (𝓤 : URA M) (H : Heap 𝓤) (A : Atoms 𝓤) (W : Given 𝓤 H A) (at-mem : Memory → SProp 𝓤) (run : Routine → Fun 𝓤) where
   walks : (C : Calls 𝓤 H) (Λ : Loops 𝓤 H) → FmC 𝓤 H (W .laws) C → Triple 𝓤 (C #store-deadline) (of-store-deadline 𝓤 H A at-mem run)
