@@ -1,8 +1,8 @@
 /* recorder.h: the recorder's steps for C firmware.
  *
  * A step takes the settings, a reading and the record, changes the record in place and returns one number. A refused step
- * returns its number and writes no byte. What each step does is document 01, "Recorder"; that these functions do it, for every
- * input and every buffer, is proved (docs/PROMISES.md).
+ * returns its number and writes no byte. What each step does stands in docs/RULES.md, 3 and 8; that these functions do it, for
+ * every input and every buffer, is proved (docs/PROMISES.md).
  *
  * Settings: seven numbers in the order n, t, eta, delta, P, O, G. They are the same for all parties of a rack and do not
  * change while it runs.
@@ -34,6 +34,11 @@
 #ifdef __cplusplus
 extern "C" {
 #endif
+
+/* The version of these calls: a new major number where a caller has to change (calls, numbers, layout), a new minor number
+ * where it need not. docs/CHANGES.md says what changed. */
+#define RECORDER_VERSION_MAJOR 1
+#define RECORDER_VERSION_MINOR 0
 
 #define RECORDER_SETTINGS 7
 #define RECORDER_WORDS 85

@@ -1,12 +1,11 @@
-// The lines that answer a step file. Serves document 01, "Program `rackrun`": each line gets "the refusal number alone, or 0
-// and the answer: a message, or one word"; settings give 0, W, a, b, c.
+// The lines that answer a step file. Serves rules 7.6 and 7.7.
 use fields::digit_count;
 use fields::put_bytes;
 use fields::put_number;
-use lines::LineWritten;
-use lines::write_one;
-use lines::write_two;
-use lines::write_word;
+use line_room::LineWritten;
+use line_room::write_one;
+use line_room::write_two;
+use line_room::write_word;
 use messages::Answer;
 use messages::Message;
 use messages::Status;
@@ -18,7 +17,7 @@ ghost use mathlib.Core.Bool.{false};
 ghost use lib.IntN.{pos};
 ghost use Rattle.settings.specs.Settings.{negative};
 ghost use Rattle.messages.specs.Answers.{said, sends};
-ghost use Rattle.lines.specs.Answers.{saidOfWritten};
+ghost use Rattle.line_room.specs.Written.{saidOfWritten};
 ghost use Rattle.lines_rules.specs.Writing.{fitting, filled};
 ghost use Rattle.answer_lines.specs.Answers.{answerLine, valuesLine, settingsAnswer};
 

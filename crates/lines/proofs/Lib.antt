@@ -1,2 +1,2 @@
--- Laws of message lines: their parts, the round trips, the greatest length.
+-- The reader's answers.
 pub mod Answers

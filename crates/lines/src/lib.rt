@@ -1,34 +1,27 @@
-// Message lines: one line of text for each message, read from any bytes and written into lent room. Serves document 01,
-// "Message lines". Each field is read from the part of the line that begins where the field begins. What is read and written
-// stands in `lines_rules`.
+// Message lines: one line of text for each message, read from any bytes and written into lent room. Serves rules 6. Each field
+// is read from the part of the line that begins where the field begins. What is read and written stands in `lines_rules`.
 use fields::Number;
-use fields::digit_count;
 use fields::is_exactly;
 use fields::part_from;
-use fields::put_bytes;
-use fields::put_number;
 use fields::read_number;
 use fields::starts;
+use line_room::LineWritten;
+use line_room::write_one;
+use line_room::write_two;
 use messages::Message;
 use messages::Status;
 ghost use mathlib.Core.Path.{_≡_};
 ghost use Rattle.messages.specs.Messages.{hasForm};
 ghost use Rattle.messages.specs.declared.Message.the-variants.{LeaseRequest, LeaseGrant, Check};
 ghost use Rattle.lines_rules.specs.Reading.{onlyNumber, oneOf, readAckStatus, readAckCounter, readAck, readLine};
-ghost use Rattle.lines_rules.specs.Writing.{fitting, filled, oneNumber, twoNumbers, writeSaid, writeRoom};
-ghost use Rattle.lines.specs.Answers.{saidOfRead, saidOfWritten};
+ghost use Rattle.lines_rules.specs.Writing.{writeSaid, writeRoom};
+ghost use Rattle.line_room.specs.Written.{saidOfWritten};
+ghost use Rattle.lines.specs.Answers.{saidOfRead};
 
 // What the reader answers: the message, or 9.
 pub enum LineRead {
     Got(Message),
     Bad,
-}
-
-// What the writer answers: the line's length; or 9; or 10, the room being too short.
-pub enum LineWritten {
-    Length(usize),
-    Bad,
-    Short,
 }
 
 // The number that is all of the part but its line feed.
@@ -141,47 +134,6 @@ fn has_form(m: Message) -> bool
             (ts <= messages::TOP_READING) & (counter <= messages::TOP_COUNTER)
         }
     }
-}
-
-// A line of a word, which holds its line feed already.
-pub fn write_word(word: &[u8], out: &mut [u8]) -> LineWritten
-    ensures { λ r. ⌜ (saidOfWritten r ≡ fitting (now (word .entry)) (now (out .entry))) × (now (out .exit) ≡ filled (now (word .entry)) (now (out .entry))) ⌝ }
-{
-    let length = word.len();
-    if out.len() < length {
-        return LineWritten::Short;
-    }
-    LineWritten::Length(put_bytes(out, 0, word))
-}
-
-// A line of one number behind its word.
-pub fn write_one(word: &[u8], number: u64, out: &mut [u8]) -> LineWritten
-    ensures { λ r. ⌜ (saidOfWritten r ≡ fitting (oneNumber (now (word .entry)) number) (now (out .entry))) × (now (out .exit) ≡ filled (oneNumber (now (word .entry)) number) (now (out .entry))) ⌝ }
-{
-    if out.len() < word.len() + digit_count(number) + 1 {
-        return LineWritten::Short;
-    }
-    let number_at = put_bytes(out, 0, word);
-    let end_at = put_number(out, number_at, number);
-    LineWritten::Length(put_bytes(out, end_at, b"\n"))
-}
-
-// A line of two numbers behind its word, parted by a tab, with what ends it, its line feed in it.
-pub fn write_two(word: &[u8], first: u64, second: u64, end: &[u8], out: &mut [u8]) -> LineWritten
-    ensures { λ r. ⌜ (saidOfWritten r ≡ fitting (twoNumbers (now (word .entry)) first second (now (end .entry))) (now (out .entry))) × (now (out .exit) ≡ filled (twoNumbers (now (word .entry)) first second (now (end .entry))) (now (out .entry))) ⌝ }
-{
-    if out.len() < word.len() {
-        return LineWritten::Short;
-    }
-    let left = out.len() - word.len();
-    if left < digit_count(first) + 1 + digit_count(second) + end.len() {
-        return LineWritten::Short;
-    }
-    let first_at = put_bytes(out, 0, word);
-    let tab_at = put_number(out, first_at, first);
-    let second_at = put_bytes(out, tab_at, b"\t");
-    let end_at = put_number(out, second_at, second);
-    LineWritten::Length(put_bytes(out, end_at, end))
 }
 
 // Writes the message's line at the front of the room. What stands behind the line is not touched, and where no line is

@@ -1,4 +1,4 @@
-// The observer: a small box that grants leases and says what it has seen. Serves document 01, "Observer". The steps take the
+// The observer: a small box that grants leases and says what it has seen. Serves rules 4. The steps take the
 // record and return it; each store is a function of its own that alters one field, so that a cut is the first of them. What a
 // step is to do, and what every step keeps, stands in `observer_rules`.
 use messages::Answer;
@@ -137,7 +137,8 @@ fn store_first(s: Settings, o: Observer, reading: u64, counter: u64, count: u64)
     if count == 0 {
         return o;
     }
-    let under_way = store_deadline(o, reading + s.observer_lease);
+    let deadline = reading + s.observer_lease;
+    let under_way = store_deadline(o, deadline);
     if count == 1 {
         return under_way;
     }

@@ -36,7 +36,7 @@ use Rattle.standby_rules.specs.Standby.{Event as StandbyEvent, stepWithin, noPl
 use Rattle.standby_rules.proofs.Forms.{form-is-kept as standby-form}
 use Rattle.rack.specs.Clocks.{Clocks, reads}
 use Rattle.rack.specs.Runs.{Rules, oursWithin, Event, time, partyKey, perform, inTime, Reading, readingsAt, rising, onClock, delivered, stateAfter, answerTo, isRun}
-use Rattle.rack.specs.Runs.Event.{atRecorder, atObserver, atStandby, crash}
+use Rattle.rack.specs.Runs.Event.{atRecorder, atObserver, atStandby, crash, restart}
 use Rattle.rack.specs.Runs.Party.{recorder, standby, observer}
 use Rattle.rack.proofs.Clocks.{is-reading}
 use Rattle.rack.proofs.History.{none}
@@ -44,7 +44,7 @@ use Rattle.rack.proofs.Steps.{Arrives}
 use Rattle.rack.proofs.Invariant.{Marks, Inv}
 use Rattle.rack.proofs.AtRecorder.{recorder-kept}
 use Rattle.rack.proofs.AtObserver.{observer-kept, crash-kept}
-use Rattle.rack.proofs.AtStandby.{ShowsFrom, standby-kept, none-kept}
+use Rattle.rack.proofs.AtStandby.{ShowsFrom, standby-kept, restart-kept, none-kept}
 
 -- ---- time and readings so far
 
@@ -127,6 +127,7 @@ Early L (atRecorder g r e) = Unit {0}
 Early L (atObserver x g r e) = (c : ℕ) → Arrives e c → g ≤ L
 Early L (atStandby g r e) = Unit {0}
 Early L (crash x g) = Unit {0}
+Early L (restart g) = Unit {0}
 
 no-grants : (k y : ℕ) → getD {A = ℕ} (replicate k 0) y 0 ≡ 0
 no-grants zero zero = refl
@@ -211,6 +212,7 @@ module _ (s : Settings) (ok : refusalOf s ≡ 0) (w : Settings → ℕ) (window-
           ended = λ z c l k. absurd (let z : c < 1 = k in omega arith);
           granted = λ y j l k. absurd (omega (arith, no-grants 16 y, k, l));
         };
+        recorder-read = omega arith;
         observer-part = λ x.
             record {
               form = observer-form .at-first s;
@@ -248,11 +250,11 @@ module _ (s : Settings) (ok : refusalOf s ≡ 0) (w : Settings → ℕ) (window-
     up e k = top-up (readingsAt e) k (topOf past k)
 
     at-recorder : (g r : ℕ) (e : RecorderEvent) → Adds rules s clocks past (atRecorder g r e) → Holds marks (atRecorder g r e ∷ past)
-    unfolding nowOf time stateAfter perform onClock
+    unfolding nowOf time stateAfter perform onClock readingsAt
     at-recorder g r e add =
         recorder-kept s ok clocks L p inv g r (topOf (atRecorder g r e ∷ past)) (time-kept past (atRecorder g r e) (add .in-time))
         (is-reading s (clocks .recorder) g r (both-hold (reads s (clocks .recorder) g r) (r ≤? topReading) (add .on-clock) .0))
-        (up (atRecorder g r e)) e (add .arrived)
+        (up (atRecorder g r e)) (seen-of (atRecorder g r e) (record { who = partyKey recorder; r = r }) refl) e (add .arrived)
 
     at-observer : (x g r : ℕ) (e : ObserverEvent) → Adds rules s clocks past (atObserver x g r e) → (p ≡ true → Early L (atObserver x g r e))
         → Holds marks (atObserver x g r e ∷ past)
@@ -273,6 +275,10 @@ module _ (s : Settings) (ok : refusalOf s ≡ 0) (w : Settings → ℕ) (window-
     at-crash x g add =
         crash-kept s ok clocks L p inv x g (topOf (crash x g ∷ past)) (time-kept past (crash x g) (add .in-time)) (up (crash x g))
 
+    at-restart : (g : ℕ) → Adds rules s clocks past (restart g) → Holds marks (restart g ∷ past)
+    unfolding nowOf time stateAfter perform
+    at-restart g add = restart-kept s clocks L p inv g (topOf (restart g ∷ past)) (time-kept past (restart g) (add .in-time)) (up (restart g))
+
     -- at the standby, with what the event shows
     pub keeps-standby : (g r : ℕ) (e : StandbyEvent) (add : Adds rules s clocks past (atStandby g r e)) (marks′ : Marks) → ShowsAt g r e marks′
         → Holds marks′ (atStandby g r e ∷ past)
@@ -288,6 +294,7 @@ module _ (s : Settings) (ok : refusalOf s ≡ 0) (w : Settings → ℕ) (window-
     keeps (atObserver x g r e) add soon = at-observer x g r e add soon
     keeps (atStandby g r e) add soon = keeps-standby g r e add marks (record { dead = inl; registered = refl; round = inl (refl, refl) })
     keeps (crash x g) add soon = at-crash x g add
+    keeps (restart g) add soon = at-restart g add
 
     -- told dead in this very event
     abbrev pub told-dead : Marks
@@ -300,6 +307,7 @@ module _ (s : Settings) (ok : refusalOf s ≡ 0) (w : Settings → ℕ) (window-
     tells (atStandby g r e) add m dead =
         keeps-standby g r e add told-dead (record { dead = λ t. inr (m, dead); registered = refl; round = inl (refl, refl) })
     tells (crash x g) add m dead = absurd (values-apart dead)
+    tells (restart g) add m dead = absurd (values-apart dead)
 
     -- a recorder that has registered: its first grants were stored early
     abbrev pub has-registered : Marks
@@ -311,6 +319,7 @@ module _ (s : Settings) (ok : refusalOf s ≡ 0) (w : Settings → ℕ) (window-
         record {
           gh = inv .gh;
           recorder-part = inv .recorder-part;
+          recorder-read = inv .recorder-read;
           observer-part = inv .observer-part;
           standby-part = inv .standby-part;
           history-part = inv .history-part;
@@ -325,3 +334,15 @@ module _ (s : Settings) (ok : refusalOf s ≡ 0) (w : Settings → ℕ) (window-
           );
           noted = inv .noted;
         }
+
+-- ---- along a run, nothing being asked of when requests arrive
+
+module _ (s : Settings) (ok : refusalOf s ≡ 0) (w : Settings → ℕ) (window-fits : w s ≤ window s) (clocks : Clocks) where
+  pub free : (e : Event) → false ≡ true → Early 0 e
+  free e z = absurd (not-both z refl)
+
+  pub from-start : (events : List Event) → isRun (oursWithin w) s clocks events ≡ true → Holds s ok w window-fits clocks 0 false nothing events
+  from-start [] h = at-first s ok w window-fits clocks 0 false
+  from-start (e ∷ past) h =
+      let a = adds (oursWithin w) s clocks past e h in
+      keeps s ok w window-fits clocks 0 false nothing past (from-start past (a .before)) e a (free e)

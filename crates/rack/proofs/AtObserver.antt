@@ -43,7 +43,7 @@ afterObserver st x g o answer =
     }
 
 -- what holds of the changed observer, and of the others, holds of each
-put-each : (F : ℕ → Observer → Type 0) (observers : ℕ → Observer) (x : ℕ) (o : Observer) → F x o → ((y : ℕ) → (y ≡ x → ⊥) → F y (observers y))
+pub put-each : (F : ℕ → Observer → Type 0) (observers : ℕ → Observer) (x : ℕ) (o : Observer) → F x o → ((y : ℕ) → (y ≡ x → ⊥) → F y (observers y))
     → (y : ℕ) → F y (put observers x o y)
 unfolding put
 put-each F observers x o mine others y = by (y =? x) refl
@@ -78,6 +78,7 @@ module _ (s : Settings) (ok : refusalOf s ≡ 0) (clocks : Clocks) (L : ℕ) (p 
       record {
         gh = gh′;
         recorder-part = recorder-on s clocks L p ext same-S same-σ same-h (inv .recorder-part);
+        recorder-read = le-trans (inv .recorder-read) (up _);
         observer-part =
             put-each (λ y o. ObserverPart s clocks L p gh′ counter g (top′ (partyKey (observer y))) y o) (st .observers) x o′ mine
             (λ y other. observer-on s clocks L p ext (up _) (λ j v. others y j v other) (inv .observer-part y));
@@ -203,11 +204,14 @@ module _ (s : Settings) (ok : refusalOf s ≡ 0) (clocks : Clocks) (L : ℕ) (p 
           alive = λ q d. is-alive q (sym (a .2) ∙ d);
         }
 
-    news : (gh′ : Ghost) → gh′ .S ≡ gh .S → ((c : ℕ) → out .answer ≡ sends (LeaseGrant c) → By (gh′ .reached) x c g)
+    news : (gh′ : Ghost) → gh′ .S ≡ gh .S → ((c : ℕ) → out .answer ≡ sends (LeaseGrant c) → By (gh′ .reached) x c g × (c ≤ counter))
         → ((ts : ℕ) → event ≡ check ts → (j v : ℕ) → By (gh′ .reached) x j v → v < g → j ≤ o .latest)
         → (m : Message) → out .answer ≡ sends m → Behind s clocks L p gh′ counter g (observer x) m g
     news gh′ same-S grant-stored low (LeaseRequest c) q = tt
-    news gh′ same-S grant-stored low (LeaseGrant c) q = (grant-stored c q, le-refl g)
+    news gh′ same-S grant-stored low (LeaseGrant c) q =
+        let f = step .grants c q in
+        let stored = grant-stored c q in
+        (stored .0, le-refl g, f .2, omega (arith, f .0), stored .1)
     news gh′ same-S grant-stored low (Check ts) q = tt
     news gh′ same-S grant-stored low (CheckAck ts cnt status) q = ack-news gh′ same-S low ts cnt status q
 
@@ -288,7 +292,7 @@ module _ (s : Settings) (ok : refusalOf s ≡ 0) (clocks : Clocks) (L : ℕ) (p 
             set-early = λ q. inr (g, r, soon q c arrives, le-refl g, read, d);
           })
           (news remembered refl
-          (λ k q. let f = step .grants k q in inl (refl, omega (arith, f .1, l), le-refl g))
+          (λ k q. let f = step .grants k q in (inl (refl, omega (arith, f .1, l), le-refl g), omega (arith, f .1, l, sent .1)))
           (λ ts e j v b h. absurd (no-check ts e)))
 
     pub observer-kept : Inv s clocks L p marks g top′ (afterObserver st x g (out .rec) (out .answer))

@@ -23,7 +23,7 @@ use Rattle.recorder_rules.proofs.Keeping.{Good, step-good}
 use Rattle.recorder_rules.proofs.Steps.{Going, Quiet, Asking, leaves, IsOpen, sentAt, sent-young, oldest-after, closed-granted, sent-kept, sent-now, place-after}
 use Rattle.recorder_rules.proofs.Ways.{each-way}
 use Rattle.rack.specs.Clocks.{Clocks}
-use Rattle.rack.specs.Runs.{State, posted, delivered, wasSent}
+use Rattle.rack.specs.Runs.{State, partyKey, posted, delivered, wasSent}
 use Rattle.rack.specs.Runs.Event.{atRecorder}
 use Rattle.rack.specs.Runs.Party.{recorder, standby, observer}
 use Rattle.rack.proofs.Clocks.{Reads, lower}
@@ -53,7 +53,7 @@ at-other : (f : ℕ → ℕ) (c v k : ℕ) → (k ≡ c → ⊥) → at f c v k 
 at-other f c v k e = rw (ne-eqb k c e)
 
 -- what is not a message, when nothing is sent
-standing-mute : (s : Settings) (rec : Recorder) (m : Message) → standing s rec ≡ sends m → ⊥
+pub standing-mute : (s : Settings) (rec : Recorder) (m : Message) → standing s rec ≡ sends m → ⊥
 unfolding standing
 standing-mute s rec m = by (registered s rec)
   where
@@ -63,7 +63,8 @@ standing-mute s rec m = by (registered s rec)
 
 module _ (s : Settings) (ok : refusalOf s ≡ 0) (clocks : Clocks) (L : ℕ) (p : Bool)
     {marks : Marks} {now : ℕ} {top : ℕ → ℕ} {st : State} (inv : Inv s clocks L p marks now top st)
-    (g r : ℕ) (top′ : ℕ → ℕ) (later : now ≤ g) (read : Reads s (clocks .recorder) g r) (up : (k : ℕ) → top k ≤ top′ k) where
+    (g r : ℕ) (top′ : ℕ → ℕ) (later : now ≤ g) (read : Reads s (clocks .recorder) g r) (up : (k : ℕ) → top k ≤ top′ k)
+    (seen : r ≤ top′ (partyKey recorder)) where
   abbrev rec : Recorder
   rec = st .recorder
 
@@ -76,13 +77,14 @@ module _ (s : Settings) (ok : refusalOf s ≡ 0) (clocks : Clocks) (L : ℕ) (p 
   -- everything but the recorder's own part
   build : (gh′ : Ghost) (out : Outcome Recorder) → Extends gh (rec .counter) now gh′ (out .rec .counter) g
       → ((y j v : ℕ) → By (gh′ .reached) y j v → By (gh .reached) y j v)
-      → RecorderPart s clocks L p gh′ g (out .rec)
+      → RecorderPart s clocks L p gh′ g (out .rec) → lastReading (out .rec) ≤ top′ (partyKey recorder)
       → ((m : Message) → out .answer ≡ sends m → Behind s clocks L p gh′ (out .rec .counter) g recorder m g)
       → Inv s clocks L p marks g top′ (afterRecorder st g out)
-  build gh′ out ext same mine news =
+  build gh′ out ext same mine low news =
       record {
         gh = gh′;
         recorder-part = mine;
+        recorder-read = low;
         observer-part = λ x. observer-on s clocks L p ext (up _) (same x) (inv .observer-part x);
         standby-part = standby-on s clocks L p ext (up _) (inv .standby-part);
         history-part =
@@ -109,6 +111,7 @@ module _ (s : Settings) (ok : refusalOf s ≡ 0) (clocks : Clocks) (L : ℕ) (p 
         ended = part .ended;
         granted = part .granted;
       }))
+      (rw e (le-trans (inv .recorder-read) (up _)))
       (λ m q. absurd (mute m q))
 
   -- the same memory, the last step being this one
@@ -132,6 +135,7 @@ module _ (s : Settings) (ok : refusalOf s ≡ 0) (clocks : Clocks) (L : ℕ) (p 
         ended = λ z. absurd (let o : 1 ≡ 0 = z in omega arith);
         granted = λ y j l k. by-weaker (gh .reached) y j j (gh .h) g (le-refl j) (le-trans (part .h-past) later) (part .granted y j l k);
       }))
+      (rw e seen)
       (λ m q. absurd (mute m q))
     where
       mute : (m : Message) → out .answer ≡ sends m → ⊥
@@ -203,6 +207,7 @@ module _ (s : Settings) (ok : refusalOf s ≡ 0) (clocks : Clocks) (L : ℕ) (p 
           ended = λ z c l below. ended-after c l below (known c below);
           granted = granted-after;
         })
+        (rw (q .reading) seen)
         (λ m e. absurd (standing-mute s (next .rec) m (sym (q .answer) ∙ e)))
       where
         known : (c : ℕ) → c < oldest (next .rec) → c ≤ rec .counter
@@ -234,6 +239,7 @@ module _ (s : Settings) (ok : refusalOf s ≡ 0) (clocks : Clocks) (L : ℕ) (p 
           ended = λ z c l below. ended-on s clocks L p on-remembered (known c below) (ended-after c l below (known c below));
           granted = granted-after;
         })
+        (rw (a .reading) seen)
         news
       where
         known : (c : ℕ) → c < oldest (next .rec) → c ≤ rec .counter

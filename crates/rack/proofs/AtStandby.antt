@@ -1,4 +1,4 @@
--- An event at the standby keeps the invariant, and when it is told dead the request that it names is doomed. Assumes nothing.
+-- An event at the standby, and a restart of it, keep the invariant, and when it is told dead the request that it names is doomed. Assumes nothing.
 use Prim.Native.Nat.{ℕ, zero, suc, _+_, _-_, _≤_}
 use native.Mathlib.Omega.{arith}
 use native.Mathlib.Nat.{le-trans, le-refl}
@@ -7,8 +7,7 @@ use mathlib.Core.Bool.{Bool, true, false}
 use mathlib.Core.List.{List, [], _∷_}
 use mathlib.Core.Logic.{_⊎_, inl, inr, ⊎-elim}
 use lib.ListN.{getD, replicate, List·getD-map}
-use Rattle.words.specs.Tests.{if_then_else_, _=?_}
-use Rattle.words.specs.Lists.{some}
+use Rattle.words.specs.Tests.{if_then_else_}
 use Rattle.words.specs.Said.{Said}
 use Rattle.words.proofs.Booleans.{not-both}
 use Rattle.settings.specs.declared.Settings.{Settings}
@@ -17,12 +16,12 @@ use Rattle.settings.specs.Quorums.{closes, _∋_}
 use Rattle.settings.proofs.Laws.{accepted-in-range, window-law}
 use Rattle.messages.specs.declared.Status.{Status}
 use Rattle.messages.specs.declared.Message.{Message}
-use Rattle.messages.specs.declared.Message.the-variants.{Check, CheckAck}
+use Rattle.messages.specs.declared.Message.the-variants.{CheckAck}
 use Rattle.messages.specs.Answers.{Spoken, sends, says, saysOf}
 use Rattle.messages.specs.Outcomes.{Outcome, _leaving_}
 use Rattle.standby_rules.specs.declared.Place.{Place}
 use Rattle.standby_rules.specs.declared.Standby.{Standby}
-use Rattle.standby_rules.specs.Standby.{Event, stepWithin, closed, unused, noPlaces, keptMarks, keeping, afterKeeping, verdict, greatest, saysDead, lastReading}
+use Rattle.standby_rules.specs.Standby.{Event, stepWithin, closed, unused, noPlaces, keptMarks, keeping, afterKeeping, verdict, lastReading, fresh}
 use Rattle.standby_rules.specs.Standby.Event.{ack}
 use Rattle.standby_rules.specs.Claims.{Kept}
 use Rattle.standby_rules.proofs.Forms.{form-is-kept}
@@ -35,7 +34,7 @@ use Rattle.rack.specs.Runs.Party.{recorder, standby, observer}
 use Rattle.rack.proofs.Clocks.{Reads, lower}
 use Rattle.rack.proofs.History.{sent-has, posted-all}
 use Rattle.rack.proofs.Ghost.{Ghost, Extends, stays, AckFact, Behind, Doomed, ack-on, history-on, doomed-on}
-use Rattle.rack.proofs.Steps.{StandbyStep, standby-step, no-message, no-refused-message}
+use Rattle.rack.proofs.Steps.{StandbyStep, standby-step, standby-sends}
 use Rattle.rack.proofs.Invariant.{Acked, StandbyPart, Marks, Inv, observer-on, recorder-on}
 
 -- the state after the standby's step
@@ -58,15 +57,6 @@ none-kept x e = not-both e (empty 16 x)
     empty (suc k) zero = refl
     empty (suc k) (suc x) = empty k x
 
-verdict-mute : (places : List Place) (m : Message) → verdict places ≡ sends m → ⊥
-unfolding verdict
-verdict-mute places m = by (greatest places =? 0) (some (saysDead (greatest places)) places)
-  where
-    by : (a b : Bool) → (if a then says "unknown" else if b then saysOf "dead" (greatest places) else saysOf "alive" (greatest places)) ≡ sends m → ⊥
-    by true b e = no-message e
-    by false true e = no-message e
-    by false false e = no-message e
-
 -- a place after a first ack: the ack's, or as it was
 place-of : (places : List Place) (x cnt : ℕ) (status : Status) (y : ℕ)
     → ((y ≡ x) × (getD (keeping x cnt status places) y unused ≡ record { kept = true; counter = cnt; status = status }))
@@ -83,6 +73,26 @@ pub record ShowsFrom (marks : Marks) (q : Standby) (event : Event) (answer : Sai
   pub registered : marks′ .reg ≡ marks .reg
   pub round : ((marks′ .ts ≡ marks .ts) × (marks′ .places ≡ marks .places))
       ⊎ ((x : ℕ) × (cnt : ℕ) × (status : Status) × (event ≡ ack x (q .ts) cnt status) × (marks′ .ts ≡ q .ts) × (marks′ .places ≡ keeping x cnt status (q .places)))
+
+-- a restart: the record is the fresh one, and all else stays
+pub restart-kept : (s : Settings) (clocks : Clocks) (L : ℕ) (p : Bool) {marks : Marks} {now : ℕ} {top : ℕ → ℕ} {st : State}
+    → Inv s clocks L p marks now top st → (g : ℕ) (top′ : ℕ → ℕ) → now ≤ g → ((k : ℕ) → top k ≤ top′ k)
+    → Inv s clocks L p marks g top′ (record { recorder = st .recorder; observers = st .observers; standby = fresh; history = st .history })
+restart-kept s clocks L p {marks} {now} {top} {st} inv g top′ later up =
+    let ext = stays (inv .gh) (st .recorder .counter) now g later in
+    let f = form-is-kept .at-first s in
+    record {
+      gh = inv .gh;
+      recorder-part = recorder-on s clocks L p ext refl refl refl (inv .recorder-part);
+      recorder-read = le-trans (inv .recorder-read) (up _);
+      observer-part = λ x. observer-on s clocks L p ext (up _) (λ j v b. b) (inv .observer-part x);
+      standby-part = record { form = f .0; sized = f .1; read = omega arith; kept = λ x k. absurd (none-kept x k) };
+      history-part = history-on s clocks L p ext (inv .history-part);
+      early = inv .early;
+      doom = λ t. let d = inv .doom t in (d .0, doomed-on s clocks L p ext (d .1));
+      registered-early = inv .registered-early;
+      noted = λ x k. ack-on s clocks L p ext (inv .noted x k);
+    }
 
 module _ (s : Settings) (ok : refusalOf s ≡ 0) (w : ℕ) (window-fits : w ≤ window s) (clocks : Clocks) (L : ℕ) (p : Bool)
     {marks : Marks} {now : ℕ} {top : ℕ → ℕ} {st : State} (inv : Inv s clocks L p marks now top st)
@@ -160,32 +170,8 @@ module _ (s : Settings) (ok : refusalOf s ≡ 0) (w : ℕ) (window-fits : w ≤ 
       let d = rest out (standby-step w s q r event) in
       record { form = f .0; sized = f .1; read = d .0; kept = d .1 }
 
-  -- only a begin sends, and it sends its reading
-  after-keeping-mute : (places : List Place) (m : Message) → afterKeeping s q r places .answer ≡ sends m → ⊥
-  unfolding afterKeeping
-  after-keeping-mute places m = by (closes s (keptMarks places))
-    where
-      by : (b : Bool)
-          → (if b then verdict places leaving closed r
-          else says "waiting" leaving record { «open_flag» = q .«open_flag»; ts = q .ts; «last_reading» = r; places = places })
-          .answer
-          ≡ sends m
-          → ⊥
-      by true e = verdict-mute places m e
-      by false e = no-message e
-
-  checks : (o : Outcome Standby) → StandbyStep w s q r event o → (m : Message) → o .answer ≡ sends m → m ≡ Check r
-  checks o (inl a) m e = no-refused-message (sym (a .1 .1) ∙ e)
-  checks o (inr (inl a)) m e = same (sym (ap (λ (o : Outcome Standby). o .answer) (a .1)) ∙ e)
-    where
-      same : sends (Check r) ≡ sends m → m ≡ Check r
-      same e = cc
-  checks o (inr (inr (inl a))) m e = no-message (sym (ap (λ (o : Outcome Standby). o .answer) (a .1)) ∙ e)
-  checks o (inr (inr (inr (inl a)))) m e = no-message (sym (ap (λ (o : Outcome Standby). o .answer) (a .1)) ∙ e)
-  checks o (inr (inr (inr (inr a)))) m e = absurd (after-keeping-mute (keeping (a .0) (a .1) (a .2) (q .places)) m (sym (ap (λ (o : Outcome Standby). o .answer) (a .7)) ∙ e))
-
   news : (m : Message) → out .answer ≡ sends m → Behind s clocks L p gh counter g standby m g
-  news m e = rw (checks out (standby-step w s q r event) m e) (read, le-refl g)
+  news m e = rw (standby-sends w s q r event m e) (read, le-refl g)
 
   -- ---- told dead
 
@@ -222,6 +208,7 @@ module _ (s : Settings) (ok : refusalOf s ≡ 0) (w : ℕ) (window-fits : w ≤ 
       record {
         gh = gh;
         recorder-part = recorder-on s clocks L p ext refl refl refl (inv .recorder-part);
+        recorder-read = le-trans (inv .recorder-read) (up _);
         observer-part = λ x. observer-on s clocks L p ext (up _) (λ j v b. b) (inv .observer-part x);
         standby-part = after-part;
         history-part =

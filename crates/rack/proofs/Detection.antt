@@ -7,7 +7,7 @@ use mathlib.Core.Bool.{Bool, true, false, _||_, not}
 use mathlib.Core.List.{List, [], _∷_, _++_, append-assoc}
 use mathlib.Core.Logic.{_⊎_, inl, inr, ⊎-elim}
 use lib.ListN.{getD, List·getD-map}
-use borrow.Author.Tests.{leb-true, leb-false, eq-eqb}
+use borrow.Author.Tests.{leb-true, leb-false}
 use Rattle.words.specs.Tests.{_≤?_}
 use Rattle.words.specs.Lists.{every}
 use Rattle.words.specs.Said.{Said}
@@ -31,11 +31,11 @@ use Rattle.standby_rules.specs.Claims.{Kept}
 use Rattle.standby_rules.proofs.Verdicts.{verdicts-hold}
 use Rattle.rack.specs.Clocks.{Clocks, reads}
 use Rattle.rack.specs.Runs.{ours, Event, time, Sent, Party, messageKey, sameNumbers, wasSent, posted, perform, onClock, delivered, stateAfter, answerTo, isRun}
-use Rattle.rack.specs.Runs.Event.{atRecorder, atObserver, atStandby, crash}
+use Rattle.rack.specs.Runs.Event.{atRecorder, atObserver, atStandby, crash, restart}
 use Rattle.rack.specs.Runs.Party.{recorder, standby, observer}
 use Rattle.rack.specs.Claims.{Ended, isRequest, sentBy, arrivesWithin, prompt, noBegin, RegisteredIn, DeadIsDetected}
 use Rattle.rack.proofs.Clocks.{Reads, is-reading, lower}
-use Rattle.rack.proofs.History.{All, none, more, sent-has}
+use Rattle.rack.proofs.History.{All, none, more, same-key, sent-has}
 use Rattle.rack.proofs.Invariant.{Marks}
 use Rattle.rack.proofs.Along.{Adds, adds, Early, nothing, Holds, at-first, keeps, keeps-standby, registers}
 use Rattle.rack.proofs.Rounds.{Closing, ended-by, begin-opens, same-round}
@@ -80,15 +80,11 @@ history-less s Q (atRecorder g r e ∷ later) past a = history-less s Q later pa
 history-less s Q (atObserver x g r e ∷ later) past a = history-less s Q later past (posted-less Q (observer x) g _ (stateAfter ours s (later ++ past) .history) a)
 history-less s Q (atStandby g r e ∷ later) past a = history-less s Q later past (posted-less Q standby g _ (stateAfter ours s (later ++ past) .history) a)
 history-less s Q (crash x g ∷ later) past a = history-less s Q later past a
+history-less s Q (restart g ∷ later) past a = history-less s Q later past a
 
 before-it : (s : Settings) (Q : Sent → Type 0) (later past : List Event) (e : Event) → All Q (stateAfter ours s (later ++ (e ∷ past)) .history)
     → All Q (stateAfter ours s past .history)
 before-it s Q later past e a = history-less s Q (e ∷ []) past (history-less s Q later (e ∷ past) a)
-
-same-key : (ks : List ℕ) → sameNumbers ks ks ≡ true
-unfolding sameNumbers
-same-key [] = refl
-same-key (k ∷ ks) = rw (eq-eqb k k refl) (same-key ks)
 
 -- every request arrives by the time f + D
 arrival : (f D g c : ℕ) (full past : List Sent) → ((Q : Sent → Type 0) → All Q full → All Q past) → sentBy f full ≡ true → arrivesWithin D full c g ≡ true
@@ -111,6 +107,7 @@ unfolding prompt delivered
 early-at s f D later past (atRecorder g r e) sent quick came = tt
 early-at s f D later past (atStandby g r e) sent quick came = tt
 early-at s f D later past (crash x g) sent quick came = tt
+early-at s f D later past (restart g) sent quick came = tt
 early-at s f D later past (atObserver x g r (request c)) sent quick came = λ d a.
     arrival f D g c (stateAfter ours s (later ++ (atObserver x g r (request c) ∷ past)) .history) (stateAfter ours s past .history) (λ Q. before-it s Q later past (atObserver x g r (request c))) sent quick came
 early-at s f D later past (atObserver x g r (cut c k)) sent quick came = λ d a.

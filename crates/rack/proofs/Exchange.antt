@@ -33,15 +33,14 @@ use Rattle.standby_rules.proofs.Forms.{form-says, form-is-kept}
 use Rattle.standby_rules.proofs.Rounds.{kept-stays}
 use Rattle.rack.specs.Clocks.{Clocks, reads}
 use Rattle.rack.specs.Runs.{ours, Event, time, inTime, delivered, onClock, perform, stateAfter, answerTo, isRun}
-use Rattle.rack.specs.Runs.Event.{atRecorder, atObserver, atStandby, crash}
+use Rattle.rack.specs.Runs.Event.{atRecorder, atObserver, atStandby, crash, restart}
 use Rattle.rack.specs.Runs.Party.{recorder, standby, observer}
-use Rattle.rack.specs.Claims.{Ended, isBegin, noBegin, ackFrom, sixteen, ackers, OneExchangeEnds}
+use Rattle.rack.specs.Claims.{Ended, isBegin, noBegin, isRestart, noRestart, ackFrom, sixteen, ackers, OneExchangeEnds}
 use Rattle.rack.proofs.Clocks.{Reads, is-reading, upper}
 use Rattle.rack.proofs.History.{sent-has}
 use Rattle.rack.proofs.Ghost.{Behind}
 use Rattle.rack.proofs.Steps.{StandbyStep, standby-step}
-use Rattle.rack.proofs.Along.{nowOf, Adds, adds, nothing, Holds}
-use Rattle.rack.proofs.Safety.{from-start}
+use Rattle.rack.proofs.Along.{nowOf, Adds, adds, nothing, Holds, from-start}
 use Rattle.rack.proofs.Rounds.{reading-fine, begin-opens, passes-on}
 
 -- a verdict ends the round
@@ -55,7 +54,7 @@ verdict-ends places = by (greatest places =? 0) (some (saysDead (greatest places
     by false false = inr (greatest places, inr refl)
 
 -- the mark of an observer among the sixteen
-up-from : (a k : ℕ) → List ℕ
+unfoldable pub up-from : (a k : ℕ) → List ℕ
 up-from a zero = []
 up-from a (suc k) = a ∷ up-from (suc a) k
 
@@ -122,6 +121,7 @@ none-after ts limit (atStandby g r begin) past x = refl
 none-after ts limit (atStandby g r (ack y ts′ cnt status)) past x = rw (lt-leb g limit past) (and-false ((y =? x) && (ts′ =? ts)))
 none-after ts limit (atStandby g r poll) past x = refl
 none-after ts limit (crash y g) past x = refl
+none-after ts limit (restart g) past x = refl
 
 -- an ack of another round is none of this one
 other-round : (ts limit g r y ts′ cnt : ℕ) (status : Status) → (ts′ ≡ ts → ⊥) → (x : ℕ) → ackFrom x ts limit (atStandby g r (ack y ts′ cnt status)) ≡ false
@@ -305,16 +305,17 @@ module _ (s : Settings) (ok : refusalOf s ≡ 0) (clocks : Clocks) (earlier : Li
           after [] h = omega arith
           after (last ∷ past) h = leb-true (time last) (time e) h
 
-      in-round : (e : Event) → Adds ours s clocks (since between) e → not (isBegin e) ≡ true → time e ≤ limit → Next e
-      unfolding time ackFrom isBegin stateAfter perform answerTo stepWithin onClock
-      in-round (atRecorder g′ r e) add nb h = inr (as-before (atRecorder g′ r e) (later-than (atRecorder g′ r e) add) (λ x. refl) (λ _. refl))
-      in-round (atObserver x g′ r e) add nb h = inr (as-before (atObserver x g′ r e) (later-than (atObserver x g′ r e) add) (λ x. refl) (λ _. refl))
-      in-round (crash x g′) add nb h = inr (as-before (crash x g′) (later-than (crash x g′) add) (λ x. refl) (λ _. refl))
-      in-round (atStandby g′ r begin) add nb h = absurd (not-both nb refl)
-      in-round (atStandby g′ r poll) add nb h =
+      in-round : (e : Event) → Adds ours s clocks (since between) e → not (isBegin e) ≡ true → not (isRestart e) ≡ true → time e ≤ limit → Next e
+      unfolding time ackFrom isBegin isRestart stateAfter perform answerTo stepWithin onClock
+      in-round (atRecorder g′ r e) add nb nr h = inr (as-before (atRecorder g′ r e) (later-than (atRecorder g′ r e) add) (λ x. refl) (λ _. refl))
+      in-round (atObserver x g′ r e) add nb nr h = inr (as-before (atObserver x g′ r e) (later-than (atObserver x g′ r e) add) (λ x. refl) (λ _. refl))
+      in-round (restart g′) add nb nr h = absurd (not-both nr refl)
+      in-round (crash x g′) add nb nr h = inr (as-before (crash x g′) (later-than (crash x g′) add) (λ x. refl) (λ _. refl))
+      in-round (atStandby g′ r begin) add nb nr h = absurd (not-both nb refl)
+      in-round (atStandby g′ r poll) add nb nr h =
           ⊎-elim (λ done. inl (h, done)) inr
           (at-standby g′ r (later-than (atStandby g′ r poll) add) h poll add (λ e. let z : _≡_ {A = ℕ} 0 1 = cc in omega arith) (inr (λ x e. absurd (not-both e refl))))
-      in-round (atStandby g′ r (ack y ts′ cnt status)) add nb h =
+      in-round (atStandby g′ r (ack y ts′ cnt status)) add nb nr h =
           ⊎-elim (λ done. inl (h, done)) inr
           (at-standby g′ r (later-than (atStandby g′ r (ack y ts′ cnt status)) add) h (ack y ts′ cnt status) add (λ e. let z : _≡_ {A = ℕ} 0 1 = cc in omega arith) (of (ts′ =? ts) refl))
         where
@@ -338,32 +339,34 @@ module _ (s : Settings) (ok : refusalOf s ≡ 0) (clocks : Clocks) (earlier : Li
               named : (x : ℕ) → ((y =? x) && (ts′ =? ts) && (g′ ≤? limit)) ≡ true → y ≡ x
               named x is = eqb-true y x (both-hold (y =? x) (ts′ =? ts) (both-hold ((y =? x) && (ts′ =? ts)) (g′ ≤? limit) is .0) .0)
 
-      next : (e : Event) → Adds ours s clocks (since between) e → not (isBegin e) ≡ true → Next e
-      next e add nb = by (time e ≤? limit) refl
+      next : (e : Event) → Adds ours s clocks (since between) e → not (isBegin e) ≡ true → not (isRestart e) ≡ true → Next e
+      next e add nb nr = by (time e ≤? limit) refl
         where
           by : (b : Bool) → (time e ≤? limit) ≡ b → Next e
-          by true h = in-round e add nb (leb-true (time e) limit h)
+          by true h = in-round e add nb nr (leb-true (time e) limit h)
           by false h = inr (too-late e (later-than e add) (leb-false (time e) limit h))
 
     -- along the whole round
-    goes : (between : List Event) → isRun ours s clocks (since between) ≡ true → noBegin between ≡ true → EndedIn between ⊎ Waiting between
+    goes : (between : List Event) → isRun ours s clocks (since between) ≡ true → noBegin between ≡ true → noRestart between ≡ true
+        → EndedIn between ⊎ Waiting between
     unfolding every
-    goes [] run nb = inr at-first
-    goes (e ∷ between) run nb =
+    goes [] run nb nr = inr at-first
+    goes (e ∷ between) run nb nr =
         let a = adds ours s clocks (since between) e run in
         let n = both-hold (not (isBegin e)) (every (λ e. not (isBegin e)) between) nb in
+        let k = both-hold (not (isRestart e)) (every (λ e. not (isRestart e)) between) nr in
         ⊎-elim (λ done. inl (e ∷ done .0, done .1, done .2, ap (λ (l : List Event). e ∷ l) (done .3), done .4, done .5))
-        (λ wait. ⊎-elim (λ done. inl ([], between, e, refl, done .0, done .1)) inr (next between (a .before) wait e a (n .0)))
-        (goes between (a .before) (n .1))
+        (λ wait. ⊎-elim (λ done. inl ([], between, e, refl, done .0, done .1)) inr (next between (a .before) wait e a (n .0) (k .0)))
+        (goes between (a .before) (n .1) (k .1))
 
-whole-of : (s : Settings) (clocks : Clocks) (between past : List Event) → isRun ours s clocks (between ++ past) ≡ true → isRun ours s clocks past ≡ true
+pub whole-of : (s : Settings) (clocks : Clocks) (between past : List Event) → isRun ours s clocks (between ++ past) ≡ true → isRun ours s clocks past ≡ true
 whole-of s clocks [] past h = h
 whole-of s clocks (e ∷ between) past h = whole-of s clocks between past (adds ours s clocks (between ++ past) e h .before)
 
 pub one-exchange-ends : OneExchangeEnds
-one-exchange-ends s ok clocks between earlier g ts run nb query =
+one-exchange-ends s ok clocks between earlier g ts run nb nr query =
     ⊎-elim (λ done. done) (λ wait. absurd (quorum wait))
-    (goes s ok clocks earlier g ts (whole-of s clocks between (atStandby g ts begin ∷ earlier) run) between run nb)
+    (goes s ok clocks earlier g ts (whole-of s clocks between (atStandby g ts begin ∷ earlier) run) between run nb nr)
   where
     quorum : Waiting s ok clocks earlier g ts between → ⊥
     quorum wait =

@@ -80,7 +80,7 @@ module _ (s : Settings) (clocks : Clocks) (L : ℕ) (p : Bool) where
   Behind gh counter now standby (Check ts) t = Reads s (clocks .standby) t ts × (t ≤ now)
   Behind gh counter now standby (CheckAck ts cnt status) t = Unit {0}
   Behind gh counter now (observer x) (LeaseRequest c) t = Unit {0}
-  Behind gh counter now (observer x) (LeaseGrant c) t = By (gh .reached) x c t × (t ≤ now)
+  Behind gh counter now (observer x) (LeaseGrant c) t = By (gh .reached) x c t × (t ≤ now) × (x < n s) × (1 ≤ c) × (c ≤ counter)
   Behind gh counter now (observer x) (Check ts) t = Unit {0}
   Behind gh counter now (observer x) (CheckAck ts cnt status) t = AckFact gh counter now x ts cnt status
 
@@ -139,7 +139,7 @@ module _ (s : Settings) (clocks : Clocks) (L : ℕ) (p : Bool) where
     behind-on standby (Check ts) t f = (f .0, le-trans (f .1) (e .later))
     behind-on standby (CheckAck ts cnt status) t f = tt
     behind-on (observer x) (LeaseRequest c) t f = tt
-    behind-on (observer x) (LeaseGrant c) t f = (e .keeps x c t (f .0), le-trans (f .1) (e .later))
+    behind-on (observer x) (LeaseGrant c) t f = (e .keeps x c t (f .0), le-trans (f .1) (e .later), f .2, f .3, le-trans (f .4) (e .counts))
     behind-on (observer x) (Check ts) t f = tt
     behind-on (observer x) (CheckAck ts cnt status) t f = ack-on f
 

@@ -5,7 +5,7 @@ use mathlib.Core.Path.{_≡_, refl, sym, ap, _∙_}
 use mathlib.Core.Bool.{Bool, true, false, _&&_, _||_}
 use mathlib.Core.List.{List, [], _∷_}
 use lib.ListN.{getD}
-use borrow.Author.Tests.{eqb-true, ne-eqb}
+use borrow.Author.Tests.{eqb-true, eq-eqb, ne-eqb}
 use Rattle.words.specs.Tests.{if_then_else_, _=?_}
 use Rattle.words.specs.Lists.{some}
 use Rattle.words.specs.Said.{Said}
@@ -41,6 +41,11 @@ same-numbers (x ∷ xs) (y ∷ ys) e =
     let a = eqb-true x y (p .0) in
     let b = same-numbers xs ys (p .1) in
     cc
+
+pub same-key : (ks : List ℕ) → sameNumbers ks ks ≡ true
+unfolding sameNumbers
+same-key [] = refl
+same-key (k ∷ ks) = rw (eq-eqb k k refl) (same-key ks)
 
 party-of : ℕ → Party
 party-of k = if k =? 0 then recorder else if k =? 1 then standby else observer (k - 2)

@@ -77,6 +77,7 @@ module _ (s : Settings) (clocks : Clocks) (L : ℕ) (p : Bool) where
   pub record Inv (marks : Marks) (now : ℕ) (top : ℕ → ℕ) (st : State) : Type 0 where
     pub gh : Ghost
     pub recorder-part : RecorderPart gh now (st .recorder)
+    pub recorder-read : lastOfRecorder (st .recorder) ≤ top (partyKey recorder)
     pub observer-part : (x : ℕ) → ObserverPart gh (st .recorder .counter) now (top (partyKey (observer x))) x (st .observers x)
     pub standby-part : StandbyPart gh (st .recorder .counter) now (top (partyKey standby)) (st .standby)
     pub history-part : HistoryPart gh (st .recorder .counter) now (st .history)

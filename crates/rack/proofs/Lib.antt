@@ -1,6 +1,7 @@
--- Demand 3 over runs: clocks and history, the ghosts and the invariant, one module a party, then the three claims.
+-- Demand 3 over runs: clocks and history, the ghosts and the invariant, one module a party, then the claims.
 pub mod Clocks
 pub mod History
+pub mod Freedoms
 pub mod Ghost
 pub mod Steps
 pub mod Invariant
@@ -8,7 +9,11 @@ pub mod AtRecorder
 pub mod AtObserver
 pub mod AtStandby
 pub mod Along
-pub mod Safety
 pub mod Rounds
+pub mod NeverRefused
+pub mod Sending
+pub mod Safety
 pub mod Detection
 pub mod Exchange
+pub mod Found
+pub mod SomeRun

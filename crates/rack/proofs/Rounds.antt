@@ -35,7 +35,7 @@ use Rattle.standby_rules.specs.Standby.{Event as StandbyEvent, stepWithin, begi
 use Rattle.standby_rules.specs.Standby.Event.{begin, ack, poll}
 use Rattle.rack.specs.Clocks.{Clocks, reads}
 use Rattle.rack.specs.Runs.{Rules, oursWithin, Event, partyKey, readingsAt, perform, onClock, stateAfter, answerTo}
-use Rattle.rack.specs.Runs.Event.{atRecorder, atObserver, atStandby, crash}
+use Rattle.rack.specs.Runs.Event.{atRecorder, atObserver, atStandby, crash, restart}
 use Rattle.rack.specs.Runs.Party.{recorder, standby}
 use Rattle.rack.specs.Claims.{Ended, isBegin}
 use Rattle.rack.proofs.Steps.{StandbyStep, standby-step}
@@ -143,6 +143,7 @@ ended-by w s past (atStandby g r e) ended =
     closing (w s) s (stateAfter (oursWithin w) s past .standby) g r e (stepWithin (w s) s (stateAfter (oursWithin w) s past .standby) r e)
     (standby-step (w s) s (stateAfter (oursWithin w) s past .standby) r e) ended
 ended-by w s past (crash x g) ended = absurd (not-ended (refuses 0) refl ended)
+ended-by w s past (restart g) ended = absurd (not-ended (refuses 0) refl ended)
 
 -- ---- a begin is never refused in a run
 
@@ -176,14 +177,19 @@ module _ (s : Settings) (ok : refusalOf s ≡ 0) (w : Settings → ℕ) (window-
       let no-fall = reading-of s ok w window-fits clocks L p marks past inv (atStandby g r e) (record { who = partyKey standby; r = r }) refl (add .no-fall) in
       rw (le-ltb topReading r inside, le-ltb r (lastReading (standbyAfter past)) (le-trans (inv .standby-part .read) no-fall))
 
-  pub begin-opens : (marks : Marks) (past : List Event) → Holds s ok w window-fits clocks L p marks past → (g r : ℕ)
-      → Adds rules s clocks past (atStandby g r begin) → standbyAfter (atStandby g r begin ∷ past) ≡ opened r
-  unfolding stateAfter perform stepWithin beginOf first refusalOf every
-  begin-opens marks past inv g r add =
+  pub begins : (marks : Marks) (past : List Event) → Holds s ok w window-fits clocks L p marks past → (g r : ℕ)
+      → Adds rules s clocks past (atStandby g r begin) → stepWithin (w s) s (standbyAfter past) r begin ≡ (sends (Check r) leaving opened r)
+  unfolding stepWithin beginOf first refusalOf every
+  begins marks past inv g r add =
       let q = standbyAfter past in
       let fine = reading-fine marks past inv g r begin add in
       let none = passes-on (refusals s) (3 when not (hasForm s q) ∷ 4 when badReading (lastReading q) r ∷ []) refl ok (rw (inv .standby-part .form, fine)) in
-      ap (λ (o : Outcome Standby). o .rec) (not-refused (beginRefusals s q r) q (sends (Check r) leaving opened r) none)
+      not-refused (beginRefusals s q r) q (sends (Check r) leaving opened r) none
+
+  pub begin-opens : (marks : Marks) (past : List Event) → Holds s ok w window-fits clocks L p marks past → (g r : ℕ)
+      → Adds rules s clocks past (atStandby g r begin) → standbyAfter (atStandby g r begin ∷ past) ≡ opened r
+  unfolding stateAfter perform
+  begin-opens marks past inv g r add = ap (λ (o : Outcome Standby). o .rec) (begins marks past inv g r add)
 
   -- while no round is begun the open round is the same
   module _ (earlier : List Event) (g ts : ℕ) (at-begin : standbyAfter (atStandby g ts begin ∷ earlier) ≡ opened ts) where
@@ -220,6 +226,8 @@ module _ (s : Settings) (ok : refusalOf s ≡ 0) (w : Settings → ℕ) (window-
         by (atRecorder g′ r e) nb is-open rest = rest is-open
         by (atObserver x g′ r e) nb is-open rest = rest is-open
         by (crash x g′) nb is-open rest = rest is-open
+        -- the round is gone
+        by (restart g′) nb is-open rest = absurd (not-both is-open refl)
         by (atStandby g′ r e) nb is-open rest =
             let q = standbyAfter (between ++ (atStandby g ts begin ∷ earlier)) in
             let k = kept-ts q r e (stepWithin (w s) s q r e) (no-begin e nb) (standby-step (w s) s q r e) is-open in

@@ -1,15 +1,14 @@
--- Claim 1: once the standby is told dead, every later event of the recorder is answered stopped or a refusal.
+-- Claim 1: once the standby is told dead, every later event of the recorder is answered stopped.
 -- The core: a request that is doomed is sent by a recorder that does not go on. Assumes nothing.
 use Prim.Native.Nat.{ℕ, _+_, _-_, _≤_, _<_}
 use native.Mathlib.Omega.{arith}
 use native.Mathlib.Nat.{le-trans, le-refl}
-use mathlib.Core.Path.{_≡_, refl}
+use mathlib.Core.Path.{_≡_, refl, sym, _∙_}
 use mathlib.Core.Bool.{Bool, true, false}
 use mathlib.Core.List.{List, [], _∷_, _++_}
-use mathlib.Core.Logic.{inl, inr}
 use borrow.Author.Tests.{ltb-true, ltb-false}
 use Rattle.words.specs.Tests.{_<?_, _≤?_}
-use Rattle.words.proofs.Booleans.{both-hold, not-both}
+use Rattle.words.proofs.Booleans.{both-hold}
 use Rattle.settings.specs.declared.Settings.{Settings}
 use Rattle.settings.specs.Settings.{P, window, refusalOf}
 use Rattle.settings.proofs.Laws.{accepted}
@@ -26,10 +25,11 @@ use Rattle.standby_rules.proofs.Verdicts.{says-other}
 use Rattle.rack.specs.Clocks.{Clocks, reads}
 use Rattle.rack.specs.Runs.{oursWithin, Event, State, time, onClock, perform, stateAfter, answerTo, isRun}
 use Rattle.rack.specs.Runs.Event.{atRecorder}
-use Rattle.rack.specs.Claims.{StoppedOrRefused, Safe, DeadMeansDead}
+use Rattle.rack.specs.Claims.{Safe, DeadMeansDead}
 use Rattle.rack.proofs.Clocks.{Reads, is-reading, lower}
 use Rattle.rack.proofs.Invariant.{Marks, Inv}
-use Rattle.rack.proofs.Along.{nowOf, topOf, adds, Early, nothing, Holds, at-first, keeps, tells}
+use Rattle.rack.proofs.Along.{nowOf, topOf, adds, nothing, Holds, keeps, tells, free, from-start}
+use Rattle.rack.proofs.NeverRefused.{passes}
 
 -- A recorder whose request is doomed has stopped by the time it makes a step: had it gone on, the lease of that request would
 -- have ended with grants of a survival quorum, stored before the lease was long over; but a query quorum had stored nothing
@@ -67,25 +67,15 @@ abbrev dead-told : Marks
 dead-told = record { told = true; reg = false; ts = 0; places = noPlaces }
 
 module _ (s : Settings) (ok : refusalOf s ≡ 0) (w : Settings → ℕ) (window-fits : w s ≤ window s) (clocks : Clocks) where
-  -- nothing is asked of when requests arrive
   abbrev Held : Marks → List Event → Type 0
   Held marks events = Holds s ok w window-fits clocks 0 false marks events
-
-  free : (e : Event) → false ≡ true → Early 0 e
-  free e z = absurd (not-both z refl)
-
-  pub from-start : (events : List Event) → isRun (oursWithin w) s clocks events ≡ true → Held nothing events
-  from-start [] h = at-first s ok w window-fits clocks 0 false
-  from-start (e ∷ past) h =
-      let a = adds (oursWithin w) s clocks past e h in
-      keeps s ok w window-fits clocks 0 false nothing past (from-start past (a .before)) e a (free e)
 
   -- what a run has come to, it keeps
   stays : (marks : Marks) (later past : List Event) → isRun (oursWithin w) s clocks (later ++ past) ≡ true → Held marks past → Held marks (later ++ past)
   stays marks [] past h i = i
   stays marks (e ∷ later) past h i =
       let a = adds (oursWithin w) s clocks (later ++ past) e h in
-      keeps s ok w window-fits clocks 0 false marks (later ++ past) (stays marks later past (a .before) i) e a (free e)
+      keeps s ok w window-fits clocks 0 false marks (later ++ past) (stays marks later past (a .before) i) e a (free s ok w window-fits clocks e)
 
   before-of : (later past : List Event) → isRun (oursWithin w) s clocks (later ++ past) ≡ true → isRun (oursWithin w) s clocks past ≡ true
   before-of [] past h = h
@@ -103,21 +93,21 @@ module _ (s : Settings) (ok : refusalOf s ≡ 0) (w : Settings → ℕ) (window-
   pub stops : (earlier between : List Event) (told : Event) (m g r : ℕ) (e : RecorderEvent)
       → isRun (oursWithin w) s clocks (atRecorder g r e ∷ (between ++ (told ∷ earlier))) ≡ true
       → answerTo (oursWithin w) s earlier told ≡ saysOf "dead" m
-      → StoppedOrRefused (answerTo (oursWithin w) s (between ++ (told ∷ earlier)) (atRecorder g r e))
+      → answerTo (oursWithin w) s (between ++ (told ∷ earlier)) (atRecorder g r e) ≡ says "stopped"
   unfolding answerTo perform
   stops earlier between told m g r e run dead =
       let past = between ++ (told ∷ earlier) in
       let a = adds (oursWithin w) s clocks past (atRecorder g r e) run in
       let b = adds (oursWithin w) s clocks earlier told (before-of between (told ∷ earlier) (a .before)) in
-      let known = tells s ok w window-fits clocks 0 false nothing earlier (from-start earlier (b .before)) told b m dead in
+      let known = tells s ok w window-fits clocks 0 false nothing earlier (from-start s ok w window-fits clocks earlier (b .before)) told b m dead in
       let before = stays dead-told between (told ∷ earlier) (a .before) known in
-      let after = keeps s ok w window-fits clocks 0 false dead-told past before (atRecorder g r e) a (free (atRecorder g r e)) in
+      let after = keeps s ok w window-fits clocks 0 false dead-told past before (atRecorder g r e) a (free s ok w window-fits clocks (atRecorder g r e)) in
       each-way s (stateAfter (oursWithin w) s past .recorder) r e
-      (λ out. recorderStep s (stateAfter (oursWithin w) s past .recorder) r e ≡ out → StoppedOrRefused (out .answer))
+      (λ out. recorderStep s (stateAfter (oursWithin w) s past .recorder) r e ≡ out → out .answer ≡ says "stopped")
       (record {
-        refused = λ _ _. inr (_, refl);
-        stopped = λ _ _ _. inl refl;
-        stopping = λ _ _ _ _. inl refl;
+        refused = λ no _. absurd (no (passes s ok w window-fits clocks 0 false dead-told past before g r e a));
+        stopped = λ _ _ _. refl;
+        stopping = λ _ _ _ _. refl;
         going-on = λ passes running not-lacking same.
             absurd
             (goes past g r e after (before .recorder-part .good .size) (a .on-clock)
@@ -125,17 +115,12 @@ module _ (s : Settings) (ok : refusalOf s ≡ 0) (w : Settings → ℕ) (window-
       })
       refl
 
--- a drive that is answered running is neither stopped nor refused
-running-is-neither : {A : Type 0} → StoppedOrRefused (says "running") → A
-running-is-neither (inl e) = absurd (says-other (says "running") (says "stopped") refl e)
-running-is-neither (inr k) = let e = k .1 in let z : _≡_ {A = ℕ} 0 1 = cc in absurd (let v : _≡_ {A = ℕ} 0 1 = z in omega arith)
-
 pub safe : (s : Settings) → refusalOf s ≡ 0 → (w : Settings → ℕ) → w s ≤ window s → Safe (oursWithin w) s
 safe s ok w fits =
     record {
       stops = λ clocks earlier between told m g r e run dead. stops s ok w fits clocks earlier between told m g r e run dead;
       never-drives = λ clocks earlier between told m g r run dead drives.
-          running-is-neither (rw drives at (stops s ok w fits clocks earlier between told m g r drive run dead));
+          says-other (says "running") (says "stopped") refl (sym drives ∙ stops s ok w fits clocks earlier between told m g r drive run dead);
     }
 
 pub dead-means-dead : DeadMeansDead

@@ -7,17 +7,18 @@ use mathlib.Core.List.{List, [], _∷_}
 use mathlib.Core.Logic.{_⊎_, inl, inr}
 use lib.ListN.{take, getD}
 use borrow.Author.Tests.{ltb-true, ltb-false, leb-false, eqb-true, not-false}
-use Rattle.words.specs.Tests.{if_then_else_, _<?_}
-use Rattle.words.specs.Lists.{every}
+use Rattle.words.specs.Tests.{if_then_else_, _<?_, _=?_}
+use Rattle.words.specs.Lists.{every, some}
 use Rattle.words.specs.Said.{Said}
 use Rattle.words.specs.Said.Said.{refusal, gives}
 use Rattle.words.proofs.Said.{none-applies}
 use Rattle.settings.specs.declared.Settings.{Settings}
 use Rattle.settings.specs.Settings.{n, O}
+use Rattle.settings.specs.Quorums.{closes}
 use Rattle.messages.specs.declared.Status.{Status}
 use Rattle.messages.specs.declared.Message.{Message}
 use Rattle.messages.specs.declared.Message.the-variants.{LeaseGrant, Check, CheckAck}
-use Rattle.messages.specs.Answers.{Spoken, refuses, sends, says}
+use Rattle.messages.specs.Answers.{Spoken, refuses, sends, says, saysOf}
 use Rattle.messages.specs.Answers.Spoken.{message, wordWith}
 use Rattle.messages.specs.Outcomes.{Outcome, _leaving_}
 use Rattle.messages.proofs.Outcomes.{either-way}
@@ -25,6 +26,7 @@ use Rattle.observer_rules.specs.declared.Observer.{Observer}
 use Rattle.observer_rules.specs.Observer as observer
 use Rattle.observer_rules.specs.Observer.{Event as ObserverEvent}
 use Rattle.observer_rules.specs.Observer.Event.{request, cut, check}
+use Rattle.standby_rules.specs.declared.Place.{Place}
 use Rattle.standby_rules.specs.declared.Standby.{Standby}
 use Rattle.standby_rules.specs.Standby as standby
 use Rattle.standby_rules.specs.Standby.{Event as StandbyEvent}
@@ -51,7 +53,7 @@ Stores s o r e o′ =
 
 pub record ObserverStep (s : Settings) (o : Observer) (x r : ℕ) (e : ObserverEvent) (out : Outcome Observer) : Type 0 where
   pub stores : Stores s o r e (out .rec)
-  pub grants : (c : ℕ) → out .answer ≡ sends (LeaseGrant c) → (o .latest < c) × (out .rec .latest ≡ c)
+  pub grants : (c : ℕ) → out .answer ≡ sends (LeaseGrant c) → (o .latest < c) × (out .rec .latest ≡ c) × (x < n s)
   pub acks : (ts cnt : ℕ) (status : Status) → out .answer ≡ sends (CheckAck ts cnt status)
       → (e ≡ check ts) × (cnt ≡ o .latest) × (status ≡ observer.statusAt o r) × (x < n s)
 
@@ -70,19 +72,20 @@ module _ (s : Settings) (o : Observer) (x r : ℕ) where
   refused e k = idle e (refuses k) (observer.lastReading o) (λ m q. no-refused-message q)
 
   requested : (c : ℕ) → ObserverStep s o x r (request c) (observer.requestOf s o x r c)
-  unfolding observer.requestOf observer.stores observer.storeAll observer.store
+  unfolding observer.requestOf observer.stores observer.storeAll observer.store every
   requested c =
-      either-way (observer.requestRefusals s o x r c) o _ (λ out. ObserverStep s o x r (request c) out) (λ _. refused (request c) _) (λ ok. of (o .latest <? c) refl)
+      either-way (observer.requestRefusals s o x r c) o _ (λ out. ObserverStep s o x r (request c) out) (λ _. refused (request c) _)
+      (λ ok. of (leb-false (n s) x (none-applies (observer.requestRefusals s o x r c) ok refl 4)) (o .latest <? c) refl)
     where
-      of : (b : Bool) → (o .latest <? c) ≡ b
+      of : x < n s → (b : Bool) → (o .latest <? c) ≡ b
           → ObserverStep s o x r (request c) ((if b then sends (LeaseGrant c) else says "silent") leaving observer.atReading r (observer.storeAll (if b then observer.deadline (r + O s) ∷ observer.latest c ∷ [] else []) o))
-      of true h =
+      of there true h =
           record {
             stores = inr (c, inl refl, ltb-true _ _ h, refl, inr refl);
-            grants = λ d q. let e : c ≡ d = cc in (rw e at (ltb-true (o .latest) c h), e);
+            grants = λ d q. let e : c ≡ d = cc in (rw e at (ltb-true (o .latest) c h), e, there);
             acks = λ ts cnt status q. let z : _≡_ {A = ℕ} 0 1 = cc in absurd (let w : 0 ≡ 1 = z in omega arith);
           }
-      of false h = idle (request c) (says "silent") r (λ m q. no-message q)
+      of there false h = idle (request c) (says "silent") r (λ m q. no-message q)
 
   -- a cut leaves the first k stores done and answers no message
   cutted : (c k : ℕ) → ObserverStep s o x r (cut c k) (observer.cutOf s o x r c k)
@@ -148,6 +151,15 @@ StandbyStep w s q r e out =
     ⊎ ((x : ℕ) × (cnt : ℕ) × (status : Status) × (e ≡ ack x (q .ts) cnt status) × (standby.isOpen q ≡ true) × (x < n s) × (r - q .ts ≤ w)
     × (out ≡ standby.afterKeeping s q r (standby.keeping x cnt status (q .places)))))))
 
+verdict-mute : (places : List Place) (m : Message) → standby.verdict places ≡ sends m → ⊥
+unfolding standby.verdict
+verdict-mute places m = by (standby.greatest places =? 0) (some (standby.saysDead (standby.greatest places)) places)
+  where
+    by : (a b : Bool) → (if a then says "unknown" else if b then saysOf "dead" (standby.greatest places) else saysOf "alive" (standby.greatest places)) ≡ sends m → ⊥
+    by true b e = no-message e
+    by false true e = no-message e
+    by false false e = no-message e
+
 module _ (w : ℕ) (s : Settings) (q : Standby) (r : ℕ) where
   refused-standby : (e : StandbyEvent) (k : ℕ) → StandbyStep w s q r e (refuses k leaving q)
   refused-standby e k = inl (refl, (k, refl))
@@ -193,3 +205,31 @@ module _ (w : ℕ) (s : Settings) (q : Standby) (r : ℕ) where
   standby-step begin = begun
   standby-step (ack x ts cnt status) = acked x ts cnt status
   standby-step poll = polled
+
+  -- only a begin sends, and it sends its reading
+  after-keeping-mute : (places : List Place) (m : Message) → standby.afterKeeping s q r places .answer ≡ sends m → ⊥
+  unfolding standby.afterKeeping
+  after-keeping-mute places m = by (closes s (standby.keptMarks places))
+    where
+      by : (b : Bool)
+          → (if b then standby.verdict places leaving standby.closed r
+          else says "waiting" leaving record { «open_flag» = q .«open_flag»; ts = q .ts; «last_reading» = r; places = places })
+          .answer
+          ≡ sends m
+          → ⊥
+      by true e = verdict-mute places m e
+      by false e = no-message e
+
+  checks : (e : StandbyEvent) (o : Outcome Standby) → StandbyStep w s q r e o → (m : Message) → o .answer ≡ sends m → m ≡ Check r
+  checks e o (inl a) m h = no-refused-message (sym (a .1 .1) ∙ h)
+  checks e o (inr (inl a)) m h = same (sym (ap (λ (o : Outcome Standby). o .answer) (a .1)) ∙ h)
+    where
+      same : sends (Check r) ≡ sends m → m ≡ Check r
+      same h = cc
+  checks e o (inr (inr (inl a))) m h = no-message (sym (ap (λ (o : Outcome Standby). o .answer) (a .1)) ∙ h)
+  checks e o (inr (inr (inr (inl a)))) m h = no-message (sym (ap (λ (o : Outcome Standby). o .answer) (a .1)) ∙ h)
+  checks e o (inr (inr (inr (inr a)))) m h =
+      absurd (after-keeping-mute (standby.keeping (a .0) (a .1) (a .2) (q .places)) m (sym (ap (λ (o : Outcome Standby). o .answer) (a .7)) ∙ h))
+
+  pub standby-sends : (e : StandbyEvent) (m : Message) → standby.stepWithin w s q r e .answer ≡ sends m → m ≡ Check r
+  standby-sends e m h = checks e (standby.stepWithin w s q r e) (standby-step e) m h

@@ -13,28 +13,44 @@ use Rattle.settings.specs.Settings.{Δ, O, rounding, window, refusalOf}
 use Rattle.settings.specs.Quorums.{closes}
 use Rattle.messages.specs.declared.Message.{Message}
 use Rattle.messages.specs.declared.Message.the-variants.{LeaseRequest, LeaseGrant, Check, CheckAck}
-use Rattle.messages.specs.Answers.{Spoken, refuses, says, saysOf}
+use Rattle.messages.specs.Messages.{hasForm}
+use Rattle.messages.specs.Answers.{Spoken, isRefusal, says, saysOf}
 use Rattle.recorder_rules.specs.Recorder.{Event as RecorderEvent, registered}
 use Rattle.recorder_rules.specs.Recorder.Event.{drive}
 use Rattle.observer_rules.specs.Observer.Event.{request, cut, check}
 use Rattle.standby_rules.specs.Standby.Event.{begin, ack, poll}
 use Rattle.rack.specs.Clocks.{Clocks}
 use Rattle.rack.specs.Runs.{Rules, oursWithin, ours, Event, time, Sent, messageKey, sameNumbers, stateAfter, answerTo, isRun}
-use Rattle.rack.specs.Runs.Event.{atRecorder, atObserver, atStandby, crash}
+use Rattle.rack.specs.Runs.Event.{atRecorder, atObserver, atStandby, crash, restart}
 
 -- ---- 1. Safety
 
--- *stopped*, or a refusal
-abbrev pub StoppedOrRefused : Said Spoken → Type 0
-StoppedOrRefused answer = (answer ≡ says "stopped") ⊎ ((k : ℕ) × (answer ≡ refuses k))
+-- In a run no event of the recorder is refused.
+abbrev pub NeverRefused : Rules → Settings → Type 0
+NeverRefused rules s =
+    (clocks : Clocks) (past : List Event) (g r : ℕ) (e : RecorderEvent)
+    → isRun rules s clocks (atRecorder g r e ∷ past) ≡ true
+    → isRefusal (answerTo rules s past (atRecorder g r e)) ≡ false
 
--- "Once the standby is told dead, no later step of the recorder is allowed to drive": every later event of the recorder is
--- answered stopped or a refusal; hence no drive is answered running, which alone allows driving.
+-- of our steps, under all accepted settings, with every window up to W
+abbrev pub RecorderIsNeverRefused : Type 0
+RecorderIsNeverRefused =
+    (s : Settings) → refusalOf s ≡ 0 → (w : Settings → ℕ) → w s ≤ window s → NeverRefused (oursWithin w) s
+
+-- Every message that a run sends has its form (rule 6.3), so that its line can be written; with every window up to W.
+abbrev pub SentMessagesHaveForm : Type 0
+SentMessagesHaveForm =
+    (s : Settings) → refusalOf s ≡ 0 → (w : Settings → ℕ) → w s ≤ window s
+    → (clocks : Clocks) (run : List Event) → isRun (oursWithin w) s clocks run ≡ true
+    → every (λ sent. hasForm (sent .what)) (stateAfter (oursWithin w) s run .history) ≡ true
+
+-- Rule 9.6: once the standby is told dead, every later event of the recorder is answered stopped; hence no drive is answered
+-- running, which alone allows driving.
 pub record Safe (rules : Rules) (s : Settings) : Type 0 where
   pub stops : (clocks : Clocks) (earlier between : List Event) (told : Event) (m g r : ℕ) (e : RecorderEvent)
       → isRun rules s clocks (atRecorder g r e ∷ (between ++ (told ∷ earlier))) ≡ true
       → answerTo rules s earlier told ≡ saysOf "dead" m
-      → StoppedOrRefused (answerTo rules s (between ++ (told ∷ earlier)) (atRecorder g r e))
+      → answerTo rules s (between ++ (told ∷ earlier)) (atRecorder g r e) ≡ says "stopped"
   pub never-drives : (clocks : Clocks) (earlier between : List Event) (told : Event) (m g r : ℕ)
       → isRun rules s clocks (atRecorder g r drive ∷ (between ++ (told ∷ earlier))) ≡ true
       → answerTo rules s earlier told ≡ saysOf "dead" m
@@ -67,7 +83,7 @@ abbrev pub arrivesWithin : (D : ℕ) → List Sent → (c g : ℕ) → Bool
 arrivesWithin D history c g =
     every (λ sent. not (sameNumbers (messageKey (sent .what)) (messageKey (LeaseRequest c))) || (g ≤? sent .time + D)) history
 
--- "no request arrives more than D ticks after sending": every copy, arrivals that end in a cut included
+-- no request arrives more than D ticks after its sending: no copy of it, and no arrival that ends in a cut
 unfoldable pub prompt : (D : ℕ) → List Sent → Event → Bool
 prompt D history (atRecorder g r e) = true
 prompt D history (atObserver x g r (request c)) = arrivesWithin D history c g
@@ -75,6 +91,7 @@ prompt D history (atObserver x g r (cut c k)) = arrivesWithin D history c g
 prompt D history (atObserver x g r (check ts)) = true
 prompt D history (atStandby g r e) = true
 prompt D history (crash x g) = true
+prompt D history (restart g) = true
 
 unfoldable pub isBegin : Event → Bool
 isBegin (atRecorder g r e) = false
@@ -83,6 +100,7 @@ isBegin (atStandby g r begin) = true
 isBegin (atStandby g r (ack x ts cnt status)) = false
 isBegin (atStandby g r poll) = false
 isBegin (crash x g) = false
+isBegin (restart g) = false
 
 abbrev pub noBegin : List Event → Bool
 noBegin events = every (λ e. not (isBegin e)) events
@@ -92,8 +110,8 @@ abbrev pub RegisteredIn : Rules → Settings → List Event → Type 0
 RegisteredIn rules s run =
     (later : List Event) × (past : List Event) × (run ≡ later ++ past) × (registered s (stateAfter rules s past .recorder) ≡ true)
 
--- "Suppose further that the recorder had registered, sent its last request at time f, and no request arrives more than D
--- ticks after sending. Then every query begun at or after f + D + the observers' lease + 2 × (grain - 1) that ends says dead."
+-- Rule 9.7: where the recorder had registered, sent no request after time f, and no request arrives more than D ticks after its
+-- sending, every query begun at the bound or later that ends says dead.
 abbrev pub Detects : Rules → Settings → Type 0
 Detects rules s =
     (clocks : Clocks) (run : List Event) (f D : ℕ) → isRun rules s clocks run ≡ true
@@ -117,6 +135,7 @@ ackFrom x ts limit (atStandby g r begin) = false
 ackFrom x ts limit (atStandby g r (ack y ts′ cnt status)) = (y =? x) && (ts′ =? ts) && (g ≤? limit)
 ackFrom x ts limit (atStandby g r poll) = false
 ackFrom x ts limit (crash y g) = false
+ackFrom x ts limit (restart g) = false
 
 -- the sixteen observers by number
 abbrev pub sixteen : List ℕ
@@ -126,13 +145,25 @@ sixteen = 0 ∷ 1 ∷ 2 ∷ 3 ∷ 4 ∷ 5 ∷ 6 ∷ 7 ∷ 8 ∷ 9 ∷ 10 ∷ 11 
 abbrev pub ackers : (ts limit : ℕ) → List Event → List Bool
 ackers ts limit events = map (λ x. some (ackFrom x ts limit) events) sixteen
 
--- "one whose query quorum's replies arrive within the timeliness bound ends in that round, unless a new round is begun
--- meanwhile"
+unfoldable pub isRestart : Event → Bool
+isRestart (atRecorder g r e) = false
+isRestart (atObserver x g r e) = false
+isRestart (atStandby g r e) = false
+isRestart (crash x g) = false
+isRestart (restart g) = true
+
+-- the standby does not lose its record
+abbrev pub noRestart : List Event → Bool
+noRestart events = every (λ e. not (isRestart e)) events
+
+-- Rule 9.8: a round whose query quorum's replies arrive within the timeliness bound ends in that round, unless a new round is
+-- begun meanwhile, or the standby restarts meanwhile: the round is gone then.
 abbrev pub EndsInOneExchange : Rules → Settings → Type 0
 EndsInOneExchange rules s =
     (clocks : Clocks) (between earlier : List Event) (g ts : ℕ)
     → isRun rules s clocks (between ++ (atStandby g ts begin ∷ earlier)) ≡ true
     → noBegin between ≡ true
+    → noRestart between ≡ true
     → closes s (ackers ts (g + Δ s) between) ≡ true
     → (later : List Event) × (past : List Event) × (e : Event)
     × (between ≡ later ++ (e ∷ past))

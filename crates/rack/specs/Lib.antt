@@ -2,3 +2,5 @@
 pub mod Clocks
 pub mod Runs
 pub mod Claims
+pub mod Freedoms
+pub mod Found

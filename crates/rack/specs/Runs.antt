@@ -57,12 +57,15 @@ pub data Event : Type 0 where
   atStandby : (g r : ℕ) → StandbyEvent → Event
   -- observer x goes down between two steps, and comes up with what it stored
   crash : (x g : ℕ) → Event
+  -- the standby loses its record and goes on with a fresh one; its clock is not disturbed
+  restart : (g : ℕ) → Event
 
 unfoldable pub time : Event → ℕ
 time (atRecorder g r e) = g
 time (atObserver x g r e) = g
 time (atStandby g r e) = g
 time (crash x g) = g
+time (restart g) = g
 
 -- ---- Parties and what they have sent
 
@@ -112,7 +115,7 @@ pub record State : Type 0 where
   pub standby : Standby
   pub history : List Sent
 
--- "A run starts with every field of every record 0."
+-- rule 9.2
 abbrev pub start : State
 start = record { recorder = freshRecorder; observers = λ x. freshObserver; standby = freshStandby; history = [] }
 
@@ -129,7 +132,7 @@ pub record After : Type 0 where
   pub state : State
   pub answer : Said Spoken
 
--- what an event does, and what its party is answered; nobody is answered at a crash
+-- what an event does, and what its party is answered; nobody is answered at a crash or a restart
 unfoldable pub perform : Rules → Settings → State → Event → After
 perform rules s st (atRecorder g r e) =
     let out = rules .recorder s (st .recorder) r e in
@@ -174,6 +177,16 @@ perform rules s st (crash x g) =
       };
       answer = refuses 0;
     }
+perform rules s st (restart g) =
+    record {
+      state = record {
+        recorder = st .recorder;
+        observers = st .observers;
+        standby = freshStandby;
+        history = st .history;
+      };
+      answer = refuses 0;
+    }
 
 -- ---- What makes a list of events a run
 
@@ -192,8 +205,9 @@ readingsAt (atRecorder g r e) = record { who = partyKey recorder; r = r } ∷ []
 readingsAt (atObserver x g r e) = record { who = partyKey (observer x); r = r } ∷ []
 readingsAt (atStandby g r e) = record { who = partyKey standby; r = r } ∷ []
 readingsAt (crash x g) = []
+readingsAt (restart g) = []
 
--- a party's readings never fall, across crashes too
+-- a party's readings never fall, across crashes and restarts too
 unfoldable pub rising : List Event → Event → Bool
 rising past e =
     every (λ now. every (λ before. every (λ old. not (old .who =? now .who) || (old .r ≤? now .r)) (readingsAt before)) past) (readingsAt e)
@@ -204,6 +218,7 @@ onClock s clocks (atRecorder g r e) = reads s (clocks .recorder) g r && (r ≤? 
 onClock s clocks (atObserver x g r e) = reads s (clocks .observer x) g r && (r ≤? topReading)
 onClock s clocks (atStandby g r e) = reads s (clocks .standby) g r && (r ≤? topReading)
 onClock s clocks (crash x g) = true
+onClock s clocks (restart g) = true
 
 -- a message that arrives was sent, to this party, and carries its sender
 unfoldable pub delivered : List Sent → Event → Bool
@@ -217,6 +232,7 @@ delivered history (atStandby g r begin) = true
 delivered history (atStandby g r (ack x ts cnt status)) = wasSent history (observer x) (CheckAck ts cnt status)
 delivered history (atStandby g r poll) = true
 delivered history (crash x g) = true
+delivered history (restart g) = true
 
 -- the state after a list of events, the newest of which stands first
 unfoldable pub stateAfter : Rules → Settings → List Event → State

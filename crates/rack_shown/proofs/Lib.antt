@@ -1,3 +1,5 @@
 -- The single runs, shown by computation.
 mod Shown
 mod Shortcuts
+mod Freedoms
+mod Needed

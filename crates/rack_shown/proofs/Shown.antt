@@ -21,9 +21,9 @@ use Rattle.standby_rules.proofs.Verdicts.{says-other}
 use Rattle.rack.specs.Clocks.{reads}
 use Rattle.rack.specs.Runs.{ours, Event, time, partyKey, statusKey, messageKey, sameNumbers, wasSent, put, posted, perform, inTime, readingsAt, rising, onClock, delivered, stateAfter, answerTo, isRun}
 use Rattle.rack.specs.Runs.Event.{atStandby}
-use Rattle.rack.specs.Claims.{isRequest, sentBy, prompt, isBegin, ackFrom}
+use Rattle.rack.specs.Claims.{isRequest, sentBy, prompt, isBegin, isRestart, ackFrom}
 use Rattle.rack_shown.specs.Tables.{narrow, together, runOf, answersTo}
-use Rattle.rack_shown.specs.Shown.{renewalFails, DeadToldAtTheWindow, renewed, AliveToldWhileDriving, lastRequest, query, queriedAt, BoundIsMet, BoundIsMissed, BoundIsTight, asked, replies, JustInTime, unheard, cutLate, begunAnew, PremisesNeeded}
+use Rattle.rack_shown.specs.Shown.{renewalFails, DeadToldAtTheWindow, renewed, AliveToldWhileDriving, lastRequest, query, queriedAt, BoundIsMet, BoundIsMissed, BoundIsTight, asked, replies, JustInTime, unheard, cutLate, begunAnew, restarted, PremisesNeeded}
 
 -- whether the recorder is registered behind this past
 abbrev registeredBehind : List Event → Bool
@@ -58,7 +58,7 @@ record Computed : Type 0 where
 -- In the runs of detection the recorder is registered behind the first three events. `DetectsFrom (bound s)` is `Detects`, its
 -- premises in one record.
 computed : Computed
-unfolding neverRegistered renewalFails renewed lastRequest query asked replies unheard cutLate begunAnew isRequest sentBy prompt isBegin ackFrom every some countWhere first ranges eachIn inRange refusalOf window members survives closes unlessRefused recorder.spaced recorder.form recorder.hasForm recorder.lackingFrom recorder.lacking recorder.kept recorder.advanced recorder.accepted recorder.registered recorder.standing recorder.tickEvent recorder.grantEvent recorder.driveEvent recorder.tickOf recorder.grantOf recorder.driveOf recorder.stepOf observer.form observer.hasForm observer.store observer.storeAll observer.stores observer.requestOf observer.cutOf observer.statusAt observer.checkOf observer.stepOf standby.isDead standby.isUnused standby.goodPlace standby.form standby.hasForm standby.beginOf standby.greatest standby.verdict standby.afterKeeping standby.ackWithin standby.stepWithin reads time partyKey statusKey messageKey sameNumbers wasSent put posted perform inTime readingsAt rising onClock delivered stateAfter answerTo isRun answersTo
+unfolding neverRegistered renewalFails renewed lastRequest query asked replies unheard cutLate begunAnew restarted isRequest sentBy prompt isBegin isRestart ackFrom every some countWhere first ranges eachIn inRange refusalOf window members survives closes unlessRefused recorder.spaced recorder.form recorder.hasForm recorder.lackingFrom recorder.lacking recorder.kept recorder.advanced recorder.accepted recorder.registered recorder.standing recorder.tickEvent recorder.grantEvent recorder.driveEvent recorder.tickOf recorder.grantOf recorder.driveOf recorder.stepOf observer.form observer.hasForm observer.store observer.storeAll observer.stores observer.requestOf observer.cutOf observer.statusAt observer.checkOf observer.stepOf standby.isDead standby.isUnused standby.goodPlace standby.form standby.hasForm standby.beginOf standby.greatest standby.verdict standby.afterKeeping standby.ackWithin standby.stepWithin reads time partyKey statusKey messageKey sameNumbers wasSent put posted perform inTime readingsAt rising onClock delivered stateAfter answerTo isRun answersTo
 computed =
     let late = runOf (queriedAt 16 Dead "dead") in
     let early = runOf (queriedAt 15 Alive "alive") in
@@ -120,6 +120,7 @@ computed =
         no-slack = refl;
         in-time = record { accepted = refl; is-run = refl; answers = refl };
         one-round = refl;
+        no-restart = refl;
         quorum = refl;
         too-late = record { accepted = refl; is-run = refl; answers = refl };
       };
@@ -134,6 +135,9 @@ computed =
         refused = record { accepted = refl; is-run = refl; answers = refl };
         two-rounds = refl;
         both-replied = refl;
+        lost = record { accepted = refl; is-run = refl; answers = refl };
+        one-restart = refl;
+        replied-as-well = refl;
       };
     }
 

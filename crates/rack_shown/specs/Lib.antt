@@ -2,3 +2,5 @@
 pub mod Tables
 pub mod Shown
 pub mod Shortcuts
+pub mod Freedoms
+pub mod Needed

@@ -1,5 +1,5 @@
--- Document 01, "Shortcuts that look harmless": each is a set of rules that differs from ours in one thing, and a run in which
--- the standby is told dead and the recorder drives on.
+-- Shortcuts that look harmless: each is a set of rules that differs from ours in one thing, and a run in which the standby is told
+-- dead and the recorder drives on.
 use Prim.Native.Nat.{ℕ, _+_, _*_, _-_}
 use Prim.Native.String.{String}
 use mathlib.Core.Bool.{false, _&&_, not}
@@ -63,40 +63,45 @@ askedTooEarly told =
     ∷ atRecorder 10 9 drive gets says "running"
     ∷ []
 
--- W is the greatest safe window: with one tick more our rules are not safe under these settings.
+-- by our own rules
+abbrev pub askedByOurs : List Line
+askedByOurs = askedTooEarly (says "late")
+
+-- Under these settings W is the greatest safe window: with one tick more our rules are not safe. (With t = n, where a query
+-- quorum is a single observer, every window is safe.)
 abbrev pub WindowPlusOneUnsafe : Type 0
 WindowPlusOneUnsafe =
     Unsafe (oursWithin (λ s. window s + 1)) narrow (clocksAhead 0 0 (1 ∷ []))
-    (askedTooEarly (saysOf "dead" 1)) (askedTooEarly (says "late"))
+    (askedTooEarly (saysOf "dead" 1)) askedByOurs
 
 -- two grains in place of three: under these settings, one tick more
 abbrev pub TwoGrainsUnsafe : Type 0
 TwoGrainsUnsafe =
     Unsafe (oursWithin (λ s. O s - P s - 2 * rounding s)) narrow (clocksAhead 0 0 (1 ∷ []))
-    (askedTooEarly (saysOf "dead" 1)) (askedTooEarly (says "late"))
+    (askedTooEarly (saysOf "dead" 1)) askedByOurs
 
--- "W = O - P with rounding. Here it is 76." All clocks round down to tens; observer 0 is 8 ahead, the standby 5.
+-- The window O - P, 76 here, counts no rounding. All clocks round down to tens; observer 0 is 8 ahead, the standby 5.
 unfoldable pub roundedDown : (told : Said Spoken) → List Line
 roundedDown told =
-    -- "Request 1 leaves at 1000 and reaches all by 1001"
+    -- all observers get request 1
     atRecorder 1000 1000 tick gets sends (LeaseRequest 1)
-    -- "reads 1000 and stores deadline 1235"
+    -- observer 0 stores the deadline 1235
     ∷ atObserver 0 1001 1000 (request 1) gets sends (LeaseGrant 1)
     ∷ atObserver 1 1001 1000 (request 1) gets sends (LeaseGrant 1)
     ∷ atObserver 2 1001 1000 (request 1) gets sends (LeaseGrant 1)
     ∷ atRecorder 1100 1100 tick gets sends (LeaseRequest 2)
-    -- "The standby .. asks at 1155, hears Alive 1 from observer 1 at 1156"
+    -- the standby asks, and hears observer 1 before it gets request 2
     ∷ atStandby 1155 1160 begin gets sends (Check 1160)
     ∷ atObserver 1 1156 1150 (check 1160) gets sends (CheckAck 1160 1 Alive)
     ∷ atStandby 1156 1160 (ack 1 1160 1 Alive) gets says "waiting"
-    -- "Observers 1 and 2 get request 2 at 1157; their grants arrive at 1159, where the recorder reads 1150"
+    -- observers 1 and 2 grant request 2, and the grants arrive while lease 1 is 150 old by the recorder's reading
     ∷ atObserver 1 1157 1150 (request 2) gets sends (LeaseGrant 2)
     ∷ atObserver 2 1157 1150 (request 2) gets sends (LeaseGrant 2)
     ∷ atRecorder 1159 1150 (grant 1 2) gets says "unregistered"
     ∷ atRecorder 1159 1150 (grant 2 2) gets says "running"
-    -- "it misses request 2 and says Dead at 1232, reading 1240"
+    -- observer 0 has missed request 2
     ∷ atObserver 0 1232 1240 (check 1160) gets sends (CheckAck 1160 1 Dead)
-    -- "and Dead 1 at 1233: 70 by its clock, dead, while the recorder runs. W = 49 says late."
+    -- 70 by the standby's clock: past W = 49, and within O - P
     ∷ atStandby 1233 1230 (ack 0 1160 1 Dead) gets told
     ∷ atRecorder 1233 1230 drive gets says "running"
     ∷ []
@@ -106,7 +111,7 @@ NoRoundingUnsafe =
     Unsafe (oursWithin (λ s. O s - P s)) usual (clocksAhead 0 5 (8 ∷ []))
     (roundedDown (saysOf "dead" 1)) (roundedDown (says "late"))
 
--- ---- "Counting a grant before ending the leases: a recorder that slept comes back to life."
+-- ---- A grant counted before leases are ended: a recorder that slept wakes up
 
 -- the grant goes in before the ended leases are looked at; else our steps
 unfoldable pub grantFirst : Settings → Recorder → (r : ℕ) → RecorderEvent → Outcome Recorder
@@ -146,7 +151,7 @@ slept wakes =
 abbrev pub GrantFirstUnsafe : Type 0
 GrantFirstUnsafe = Unsafe countingGrantsFirst usual together (slept "running") (slept "stopped")
 
--- ---- "Majority of statuses instead of the greatest counter."
+-- ---- The majority of statuses in place of the greatest counter
 
 -- dead if more kept acks say Dead than Alive; m is named as in ours
 unfoldable pub byMajority : List Place → Said Spoken
@@ -196,7 +201,7 @@ abbrev pub MajorityUnsafe : Type 0
 MajorityUnsafe =
     Unsafe byMajorityOfStatuses (settings 3 1 100 40 159 235 10) together (outvoted "dead") (outvoted "alive")
 
--- ---- "Latest stored before deadline."
+-- ---- Latest stored before the deadline
 
 -- a cut leaves the first k of the stores in the other order; a request that is not cut does both; else our steps
 unfoldable pub latestFirst : Settings → Observer → (x r : ℕ) → ObserverEvent → Outcome Observer
@@ -209,7 +214,7 @@ latestFirst s o x r (check ts) = observer.checkOf s o x r ts
 abbrev pub storingLatestFirst : Rules
 storingLatestFirst = record { recorder = ours .recorder; observer = latestFirst; standby = ours .standby }
 
--- "A cut between its two stores would show a new counter under an old deadline": observer 0 has one at request 2.
+-- Observer 0 is cut between its stores at request 2: it shows the new counter under the old deadline.
 unfoldable pub cutBetween : (shown : ℕ) → Status → (told : String) → List Line
 cutBetween shown status told =
     atRecorder 1000 1000 tick gets sends (LeaseRequest 1)

@@ -19,8 +19,8 @@ use Rattle.observer_rules.specs.Observer.Event.{request, cut, check}
 use Rattle.standby_rules.specs.Standby.Event.{begin, ack}
 use Rattle.rack.specs.Clocks.{Clocks}
 use Rattle.rack.specs.Runs.{Rules, ours, Event, stateAfter, answerTo, isRun}
-use Rattle.rack.specs.Runs.Event.{atRecorder, atObserver, atStandby}
-use Rattle.rack.specs.Claims.{Detects, Ended, RegisteredIn, sentBy, prompt, noBegin, ackers}
+use Rattle.rack.specs.Runs.Event.{atRecorder, atObserver, atStandby, restart}
+use Rattle.rack.specs.Claims.{Detects, Ended, RegisteredIn, sentBy, prompt, noBegin, noRestart, ackers}
 use Rattle.rack_shown.specs.Tables.{narrow, clocksAhead, together, Line, _gets_, runOf, AsWritten}
 
 -- ---- 1. Safety
@@ -90,7 +90,7 @@ AliveToldWhileDriving = AsWritten ours usual together renewed
 
 -- ---- 2. Detection
 
--- "f + D + the observers' lease + 2 × (grain - 1)"
+-- the bound of rule 9.7
 abbrev pub bound : Settings → (f D : ℕ) → ℕ
 bound s f D = f + D + O s + 2 * rounding s
 
@@ -185,8 +185,10 @@ replies g answer =
 pub record JustInTime : Type 0 where
   pub no-slack : slackB usual ≡ pos 0
   pub in-time : AsWritten ours usual together (asked ++ replies (1100 + Δ usual) (saysOf "alive" 1))
-  -- what `EndsInOneExchange` supposes: no other round is begun, and the replies of a query quorum arrive within the bound
+  -- what `EndsInOneExchange` supposes: no other round is begun, the standby does not restart, and the replies of a query
+  -- quorum arrive within the bound
   pub one-round : noBegin (runOf (replies (1100 + Δ usual) (saysOf "alive" 1))) ≡ true
+  pub no-restart : noRestart (runOf (replies (1100 + Δ usual) (saysOf "alive" 1))) ≡ true
   pub quorum : closes usual (ackers 1091 (1100 + Δ usual) (runOf (replies (1100 + Δ usual) (saysOf "alive" 1)))) ≡ true
   pub too-late : AsWritten ours usual together (asked ++ replies (1100 + Δ usual + 1) (says "late"))
 
@@ -228,6 +230,16 @@ begunAnew =
     ∷ atStandby 1140 1140 (ack 1 1091 1 Alive) gets refuses 8
     ∷ []
 
+-- Behind `asked`: the second ack, in time, finds no round. Nobody is answered at the restart.
+unfoldable pub restarted : List Line
+restarted =
+    atObserver 0 1110 1110 (check 1091) gets sends (CheckAck 1091 1 Alive)
+    ∷ atObserver 1 1110 1110 (check 1091) gets sends (CheckAck 1091 1 Alive)
+    ∷ atStandby 1120 1120 (ack 0 1091 1 Alive) gets says "waiting"
+    ∷ restart 1130 gets refuses 0
+    ∷ atStandby 1140 1140 (ack 1 1091 1 Alive) gets refuses 7
+    ∷ []
+
 -- Where one premise is lacking, the conclusion fails, though the query is begun at the bound and the replies come in time.
 pub record PremisesNeeded : Type 0 where
   -- the recorder had registered
@@ -245,3 +257,7 @@ pub record PremisesNeeded : Type 0 where
   pub refused : AsWritten ours usual together (asked ++ begunAnew)
   pub two-rounds : noBegin (runOf begunAnew) ≡ false
   pub both-replied : closes usual (ackers 1091 (1100 + Δ usual) (runOf begunAnew)) ≡ true
+  -- the standby does not restart meanwhile
+  pub lost : AsWritten ours usual together (asked ++ restarted)
+  pub one-restart : noRestart (runOf restarted) ≡ false
+  pub replied-as-well : closes usual (ackers 1091 (1100 + Δ usual) (runOf restarted)) ≡ true

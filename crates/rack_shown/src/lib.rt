@@ -1,6 +1,8 @@
 // Single runs of a rack, shown by computation: those that meet the premises of demand 3, at the margin, and those that refute the
-// shortcuts of document 01. Theorems; no code that runs.
+// shortcuts that look harmless. Theorems; no code that runs.
 ghost use Rattle.rack_shown.specs.Shown.{DeadToldAtTheWindow, AliveToldWhileDriving, BoundIsMet, BoundIsTight, JustInTime, PremisesNeeded};
+ghost use Rattle.rack_shown.specs.Freedoms.{EverythingHappens};
+ghost use Rattle.rack_shown.specs.Needed.{TestsAreNeeded, DetectionNeedsThem};
 ghost use Rattle.rack_shown.specs.Shortcuts.{WindowPlusOneUnsafe, TwoGrainsUnsafe, NoRoundingUnsafe, GrantFirstUnsafe, MajorityUnsafe, LatestFirstUnsafe};
 
 // ---- The claims are not empty: single runs, at the margin.
@@ -30,9 +32,26 @@ pub fn one_exchange_just_in_time()
     ensures { λ _. ⌜ JustInTime ⌝ }
 {}
 
-// Without registration, with a late arrival or with a new round begun meanwhile, the second half of the demand fails.
+// Without registration, with a late arrival, with a new round begun or the standby restarted meanwhile, the second half fails.
 pub fn premises_are_needed()
     ensures { λ _. ⌜ PremisesNeeded ⌝ }
+{}
+
+// Everything that a run allows happens in one run, and dead is told in it.
+pub fn everything_happens()
+    ensures { λ _. ⌜ EverythingHappens ⌝ }
+{}
+
+// ---- Nothing that is supposed is idle
+
+// Events that pass all tests of a run but one, and in which dead does not mean dead or one exchange does not end a round.
+pub fn tests_are_needed()
+    ensures { λ _. ⌜ TestsAreNeeded ⌝ }
+{}
+
+// With a request sent after f, or one that arrives after D, a query begun at the bound may say alive.
+pub fn detection_needs_its_premises()
+    ensures { λ _. ⌜ DetectionNeedsThem ⌝ }
 {}
 
 // ---- Shortcuts that look harmless are refuted, each by a run.

@@ -1,41 +1,20 @@
--- The open leases, walked by an index i: their spacing, those that lack grants and those that are kept; and a store at the
--- first free place. Assumes nothing.
+-- The open leases, walked by an index i: those that lack grants and those that are kept; and a store at the first free
+-- place. Assumes nothing.
 use Prim.Native.Nat.{ℕ, suc, _+_, _-_, _≤_, _<_}
 use native.Mathlib.Omega.{arith}
-use native.Mathlib.Nat.{not-suc-le-zero, le-of-suc-le-suc, add-assoc}
+use native.Mathlib.Nat.{add-assoc}
 use native.Mathlib.Numerals.{add-one}
 use mathlib.Core.Path.{_≡_, refl, sym, ap, _∙_}
-use mathlib.Core.Bool.{Bool, true, false, _&&_, _||_, not, and-assoc, and-true, or-assoc, or-false}
+use mathlib.Core.Bool.{Bool, true, false, _||_, not, or-assoc, or-false}
 use mathlib.Core.List.{List, [], _∷_, _++_, append-assoc, append-nil}
-use lib.ListN.{length, take, drop, getD, set, replicate, length-append, length-drop, drop-of-length-le}
+use lib.ListN.{length, take, drop, getD, set, replicate, length-append, drop-of-length-le}
 use lib.Seq.{take-suc, set-at}
-use Rattle.words.specs.Tests.{if_then_else_, _≤?_}
+use Rattle.words.specs.Tests.{if_then_else_}
 use Rattle.words.proofs.Walks.{next}
 use Rattle.settings.specs.declared.Settings.{Settings}
 use Rattle.settings.specs.Quorums.{survives}
 use Rattle.recorder_rules.specs.declared.Recorder.{Recorder}
-use Rattle.recorder_rules.specs.Recorder.{granted, spaced, hasEnded, lackingFrom, kept, placed}
-
--- ---- Spacing: one pair more, and the end
-
-module _ (apart : ℕ) (xs : List ℕ) (i : ℕ) where
-  pub spaced-more : {all : Bool} (ok : Bool) → i + 1 < length xs → all ≡ (ok && spaced apart (drop i xs))
-      → all ≡ (ok && (apart ≤? getD xs (i + 1) 0 - getD xs i 0) && spaced apart (drop (i + 1) xs))
-  unfolding spaced
-  spaced-more ok h e =
-      e
-      ∙ rw (next 0 xs i (omega arith), next 0 xs (i + 1) h)
-      (sym (and-assoc ok (apart ≤? getD xs (i + 1) 0 - getD xs i 0) (spaced apart (getD xs (i + 1) 0 ∷ drop (i + 1 + 1) xs))))
-
-  short : (ys : List ℕ) → length ys ≤ 1 → spaced apart ys ≡ true
-  unfolding spaced
-  short [] h = refl
-  short (y ∷ []) h = refl
-  short (y ∷ z ∷ ys) h = absurd (not-suc-le-zero (le-of-suc-le-suc h))
-
-  pub spaced-done : {all : Bool} (ok : Bool) → length xs ≤ i + 1 → all ≡ (ok && spaced apart (drop i xs)) → ok ≡ all
-  spaced-done ok h e =
-      sym (e ∙ rw (short (drop i xs) (rw (length-drop i xs) (omega arith))) (and-true ok))
+use Rattle.recorder_rules.specs.Recorder.{granted, hasEnded, lackingFrom, kept, placed}
 
 -- ---- Leases that lack grants: one lease more that has ended, or has not, and the end
 

@@ -1,5 +1,3 @@
 -- Laws of the recorder.
-pub mod Places
 mod Leases
-mod Coded
 mod Walked

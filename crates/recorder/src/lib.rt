@@ -1,25 +1,25 @@
-// The recorder: the party that drives while its leases hold. Serves document 01, "Recorder". What a step is to do, and what
-// every step keeps, stands in `recorder_rules`.
+// The recorder: the party that drives while its leases hold. Serves rules 3. What a step is to do, and what every step keeps,
+// stands in `recorder_rules`; whether a record has its form is `recorder_form`'s to say.
 ghost use mathlib.Core.Path.{_≡_};
 ghost use mathlib.Core.List.{map};
-ghost use Prim.Native.Nat.{_-_, _≤_, _<_};
-ghost use lib.ListN.{take, drop};
-ghost use Rattle.words.specs.Tests.{_<?_, _≤?_};
-ghost use Rattle.words.specs.Lists.{every};
+ghost use Prim.Native.Nat.{_<_};
+ghost use Rattle.words.specs.Tests.{_≤?_};
 ghost use Rattle.words.specs.Said.{first};
 ghost use Rattle.settings.specs.Quorums.{survives};
 ghost use Rattle.messages.specs.Answers.{said, refuses};
 ghost use Rattle.messages.specs.Outcomes.{_leaving_};
-ghost use Rattle.recorder_rules.specs.Recorder.{isZero, spaced, hasForm, stepRefusals, grantRefusals, granted, standing, higher, tickEvent, grantEvent, driveEvent, tickOf, grantOf, driveOf};
+ghost use Rattle.recorder_rules.specs.Recorder.{stepRefusals, grantRefusals, granted, standing, higher, tickEvent, grantEvent, driveEvent, tickOf, grantOf, driveOf};
 ghost use Rattle.recorder.specs.Outcome.{outcome};
 ghost use Rattle.recorder.specs.Parts.{Bounded, SiftedAt, advancedTo, Roomy};
 use messages::Answer;
 use messages::Message;
 use messages::TOP_COUNTER;
 use messages::TOP_READING;
+use recorder_form::has_form;
 use recorder_rules::Recorder;
 use settings::Settings;
 use settings::contains_survival_quorum;
+use settings::less;
 
 // A step's answer, and the record that it leaves.
 pub struct Stepped {
@@ -40,109 +40,10 @@ struct Advanced {
     rec: Recorder,
 }
 
-// x - y, or 0 where y is the greater: no record, whatever its numbers, makes a difference wrap.
-fn less(x: u64, y: u64) -> u64
-    ensures { λ r. ⌜ r ≡ x - y ⌝ }
-{
-    if y <= x { x - y } else { 0 }
-}
-
 fn higher_of(x: u64, y: u64) -> u64
     ensures { λ r. ⌜ r ≡ higher x y ⌝ }
 {
     if x < y { y } else { x }
-}
-
-// ---- Form
-
-// Are the places of leases from `first` on unused?
-fn sends_unused(sends: [u64; 64], first: usize) -> bool
-    ensures { λ r. ⌜ r ≡ every isZero (drop first sends) ⌝ }
-{
-    let mut ok = true;
-    let mut i = first;
-    while i < 64 {
-        ok = ok & (sends[i] == 0);
-        i += 1;
-    }
-    ok
-}
-
-// Are the places of grants from `first` on unused?
-fn grants_unused(grants: [u64; 16], first: usize) -> bool
-    ensures { λ r. ⌜ r ≡ every isZero (drop first grants) ⌝ }
-{
-    let mut ok = true;
-    let mut i = first;
-    while i < 16 {
-        ok = ok & (grants[i] == 0);
-        i += 1;
-    }
-    ok
-}
-
-fn grants_at_most(grants: [u64; 16], counter: u64) -> bool
-    ensures { λ r. ⌜ r ≡ every (λ grant. grant ≤? counter) grants ⌝ }
-{
-    let mut ok = true;
-    for i in 0..16 {
-        ok = ok & (grants[i] <= counter);
-    }
-    ok
-}
-
-// Are the first `count` send readings at least `interval` apart?
-fn sends_apart(sends: [u64; 64], count: usize, interval: u64) -> bool
-    requires { ⌜ count ≤ 64 ⌝ }
-    ensures { λ r. ⌜ r ≡ spaced interval (take count sends) ⌝ }
-{
-    let mut ok = true;
-    let mut i: usize = 0;
-    while i + 1 < count {
-        ok = ok & (interval <= less(sends[i + 1], sends[i]));
-        i += 1;
-    }
-    ok
-}
-
-// Are the first `count` leases younger than `lease` at a reading?
-fn sends_young(sends: [u64; 64], count: usize, lease: u64, reading: u64) -> bool
-    requires { ⌜ count ≤ 64 ⌝ }
-    ensures { λ r. ⌜ r ≡ every (λ send. reading - send <? lease) (take count sends) ⌝ }
-{
-    let mut ok = true;
-    for i in 0..count {
-        ok = ok & (less(reading, sends[i]) < lease);
-    }
-    ok
-}
-
-// 01's form, in its order. Where the counter is 0 the places' own conditions leave only the numbers to be seen.
-fn has_form(s: Settings, rec: Recorder) -> bool
-    ensures { λ r. ⌜ r ≡ hasForm s rec ⌝ }
-{
-    if 64 < rec.open_leases {
-        return false;
-    }
-    let sends = rec.sends;
-    let grants = rec.grants;
-    let count = rec.open_leases as usize;
-    let newest = less(rec.open_leases, 1) as usize;
-    (rec.counter <= TOP_COUNTER)
-        & (rec.stopped <= 1)
-        & ((rec.counter != 0)
-            | ((rec.stopped == 0) & (rec.last_send == 0) & (rec.open_leases == 0)))
-        & sends_unused(sends, count)
-        & grants_unused(grants, s.observers as usize)
-        & grants_at_most(grants, rec.counter)
-        & ((rec.counter == 0) | (1 <= rec.open_leases))
-        & (rec.open_leases <= rec.counter)
-        & sends_apart(sends, count, s.interval)
-        & ((rec.counter == 0) | (sends[newest] == rec.last_send))
-        & (less(rec.counter, 1) <= rec.last_send)
-        & (rec.last_send <= rec.last_reading)
-        & (rec.last_reading <= TOP_READING)
-        & ((rec.stopped != 0) | sends_young(sends, count, s.recorder_lease, rec.last_reading))
 }
 
 // ---- Refusals
@@ -279,7 +180,7 @@ fn word_of(s: Settings, rec: Recorder) -> Answer
     }
 }
 
-// tick: "if the counter is 0, or r - last send ≥ η, the counter rises by 1 and that LEASE-REQUEST goes to all observers".
+// Tick: rule 3.8. There is a place for the new lease, since no more than 63 can be open when it is due.
 fn tick_event(s: Settings, rec: Recorder, reading: u64) -> Stepped
     requires { ⌜ Roomy s rec reading ⌝ }
     ensures { λ r. ⌜ outcome r ≡ tickEvent s reading rec ⌝ }
@@ -301,7 +202,7 @@ fn tick_event(s: Settings, rec: Recorder, reading: u64) -> Stepped
     }
 }
 
-// grant from an observer: "its place keeps the greater number".
+// Grant: rule 3.9.
 fn grant_event(s: Settings, rec: Recorder, observer: u64, number: u64) -> Stepped
     requires { ⌜ observer < 16 ⌝ }
     ensures { λ r. ⌜ outcome r ≡ grantEvent s observer number rec ⌝ }
@@ -327,7 +228,7 @@ fn drive_event(s: Settings, rec: Recorder) -> Stepped
 
 // ---- Steps: refusals first, then what every accepted step does, only then the event
 
-// "A refusal returns its number and the record as it came."
+// Rule 2.2.
 fn refuse(rec: Recorder, number: u32) -> Stepped
     ensures { λ r. ⌜ outcome r ≡ (refuses number leaving rec) ⌝ }
 {

@@ -4,8 +4,9 @@ pub mod Spacing
 pub mod Room
 pub mod Ways
 pub mod Grants
-pub mod Staying
 pub mod Placing
 pub mod Lacking
+pub mod Staying
 pub mod Keeping
 pub mod Steps
+pub mod Places

@@ -1,15 +1,16 @@
 -- What every step of the recorder keeps, whatever its event. A refused step hands the record back, so each claim covers it too.
-use Prim.Native.Nat.{ℕ, _≤_}
+use Prim.Native.Nat.{ℕ, _+_, _≤_, _<_}
 use mathlib.Core.Bool.{true}
 use mathlib.Core.Logic.{_⊎_}
 use mathlib.Core.Path.{_≡_}
 use lib.ListN.{length, drop, getD}
 use Rattle.settings.specs.declared.Settings.{Settings}
 use Rattle.settings.specs.Settings.{refusalOf}
+use Rattle.settings.specs.Quorums.{survives}
 use Rattle.messages.specs.Messages.{topCounter}
 use Rattle.messages.specs.Answers.{refuses, says}
 use Rattle.recorder_rules.specs.declared.Recorder.{Recorder}
-use Rattle.recorder_rules.specs.Recorder.{hasForm, leases, openLeases, kept, Event, stepOf, fresh}
+use Rattle.recorder_rules.specs.Recorder.{hasForm, leases, oldest, openLeases, granted, hasEnded, kept, Event, stepOf, fresh}
 
 -- 64 places of leases and 16 of grants, as the struct has them
 pub record Sized (rec : Recorder) : Type 0 where
@@ -48,3 +49,13 @@ abbrev pub NewestAreKept : Type 0
 NewestAreKept =
     (s : Settings) (rec : Recorder) (r : ℕ) → refusalOf s ≡ 0 → hasForm s rec ≡ true
     → (ended : ℕ) × (kept s r (leases rec) ≡ drop ended (leases rec))
+
+-- A step that is not refused and leaves the recorder running has found, before its event, a survival quorum's grants of i + 1 for
+-- every open lease i that has ended.
+abbrev pub EndedWereRenewed : Type 0
+EndedWereRenewed =
+    (s : Settings) (rec : Recorder) (r : ℕ) (event : Event)
+    → ((refused : ℕ) → stepOf s rec r event .answer ≡ refuses refused → ⊥)
+    → stepOf s rec r event .rec .stopped ≡ 0
+    → (place : ℕ) → place < length (leases rec) → hasEnded s r (getD (leases rec) place 0) ≡ true
+    → survives s (granted rec (oldest rec + place + 1)) ≡ true

@@ -1,8 +1,8 @@
-// The recorder's record and the rules of its steps. Serves document 01, "Recorder": specs/Recorder.antt says what each step does,
+// The recorder's record and the rules of its steps. Serves rules 3: specs/Recorder.antt says what each step does,
 // specs/Claims.antt what every step keeps; the code is in `recorder`.
-ghost use Rattle.recorder_rules.specs.Claims.{FormIsKept, StoppedStays, GrantsNeverFall, PlacesSuffice, NewestAreKept};
+ghost use Rattle.recorder_rules.specs.Claims.{FormIsKept, StoppedStays, GrantsNeverFall, PlacesSuffice, NewestAreKept, EndedWereRenewed};
 
-// The record, in 01's order: 85 numbers.
+// The record of rule 3.1, in its order: 85 numbers.
 pub struct Recorder {
     // 0, or 1 once the recorder has stopped for good
     pub stopped: u64,
@@ -36,4 +36,8 @@ pub fn places_suffice()
 
 pub fn newest_are_kept()
     ensures { λ _. ⌜ NewestAreKept ⌝ }
+{}
+
+pub fn ended_were_renewed()
+    ensures { λ _. ⌜ EndedWereRenewed ⌝ }
 {}

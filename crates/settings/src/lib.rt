@@ -1,5 +1,5 @@
-// The seven settings of document 01: their ranges, the three slacks, the round window W, the refusals 1 and 2,
-// and the two quorum tests. Serves the section "Settings".
+// The seven settings: their ranges, the three slacks, the round window W, the refusals 1 and 2, and the two quorum tests. Serves
+// rules 1.
 ghost use mathlib.Core.Path.{_≡_};
 ghost use Prim.Native.Nat.{_<_, _^_, _-_};
 ghost use lib.IntN.{pos, _-ℤ_};
@@ -29,7 +29,7 @@ pub struct Range {
     pub greatest: u64,
 }
 
-// One row a setting, in 01's order.
+// One row a setting, in the order of rule 1.1.
 const RANGES: [Range; 7] = [
     Range {
         least: 1,
@@ -164,8 +164,8 @@ pub fn refusal(s: Settings) -> u32
     }
 }
 
-// x - y, or 0 where y is the greater.
-fn less(x: u64, y: u64) -> u64
+// x - y, or 0 where y is the greater: no record, whatever its numbers, makes a difference wrap.
+pub fn less(x: u64, y: u64) -> u64
     ensures { λ r. ⌜ r ≡ x - y ⌝ }
 {
     if y <= x { x - y } else { 0 }

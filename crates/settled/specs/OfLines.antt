@@ -1,10 +1,10 @@
--- Determinacy of the public functions of `lines`.
+-- Determinacy of the public functions of `line_room` and `lines`.
 use Rattle.settled.specs.Settled.{Settled}
 use Rattle.lines.proofs.read_line as read-line
 use Rattle.lines.proofs.write_line as write-line
-use Rattle.lines.proofs.write_word as write-word
-use Rattle.lines.proofs.write_one as write-one
-use Rattle.lines.proofs.write_two as write-two
+use Rattle.line_room.proofs.write_word as write-word
+use Rattle.line_room.proofs.write_one as write-one
+use Rattle.line_room.proofs.write_two as write-two
 
 pub record LinesSettled : Type 0 where
   pub «read_line» : Settled read-line.Kinds.ps read-line.Kinds.r read-line.Reads.Post

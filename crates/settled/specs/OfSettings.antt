@@ -2,6 +2,7 @@
 use Rattle.settled.specs.Settled.{Settled}
 use Rattle.settings.proofs.slacks_of as slacks-of
 use Rattle.settings.proofs.refusal as refusal
+use Rattle.settings.proofs.less as less
 use Rattle.settings.proofs.round_window as round-window
 use Rattle.settings.proofs.judge as judge
 use Rattle.settings.proofs.contains_survival_quorum as survival
@@ -10,6 +11,7 @@ use Rattle.settings.proofs.contains_query_quorum as query
 pub record SettingsSettled : Type 0 where
   pub «slacks_of» : Settled slacks-of.Kinds.ps slacks-of.Kinds.r slacks-of.Reads.Post
   pub refusal : Settled refusal.Kinds.ps refusal.Kinds.r refusal.Reads.Post
+  pub less : Settled less.Kinds.ps less.Kinds.r less.Reads.Post
   pub «round_window» : Settled round-window.Kinds.ps round-window.Kinds.r round-window.Reads.Post
   pub judge : Settled judge.Kinds.ps judge.Kinds.r judge.Reads.Post
   pub «contains_survival_quorum» : Settled survival.Kinds.ps survival.Kinds.r survival.Reads.Post

@@ -21,12 +21,12 @@ pub fn fields_settled()
     ensures { λ _. ⌜ FieldsSettled ⌝ }
 {}
 
-// The public functions of `lines`.
+// The public functions of `line_room` and `lines`.
 pub fn lines_settled()
     ensures { λ _. ⌜ LinesSettled ⌝ }
 {}
 
-// The public functions of `recorder`.
+// The public functions of `recorder_form` and `recorder`.
 pub fn recorder_settled()
     ensures { λ _. ⌜ RecorderSettled ⌝ }
 {}
@@ -51,7 +51,7 @@ pub fn files_settled()
     ensures { λ _. ⌜ FilesSettled ⌝ }
 {}
 
-// The C calls of `firmware`.
+// The public functions of `record_bytes`, and the C calls of `firmware`.
 pub fn firmware_settled()
     ensures { λ _. ⌜ FirmwareSettled ⌝ }
 {}

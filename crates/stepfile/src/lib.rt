@@ -1,10 +1,9 @@
-// A step file in, its answers out, as bytes. Serves document 01, "Program `rackrun`". The file is split into lines, each line
-// performs one step on the session, and its answer is one line: what is written is a function of the input, `answers` of
-// `stepfile_rules`.
+// A step file in, its answers out, as bytes. Serves rules 7. The file is split into lines, each line performs one step on the
+// session, and its answer is one line: what is written is a function of the input, `answers` of `stepfile_rules`.
 use answer_lines::write_answer;
 use answer_lines::write_settings_answer;
 use fields::part_from;
-use lines::LineWritten;
+use line_room::LineWritten;
 use messages::Answer;
 use session::observer_at;
 use session::observer_step;
@@ -22,7 +21,7 @@ ghost use mathlib.Core.Path.{_≡_};
 ghost use Prim.Native.Nat.{_+_, _-_, _*_, _≤_, _<_};
 ghost use lib.ListN.{length, take, drop};
 ghost use Rattle.fields.specs.Places.{putAt};
-ghost use Rattle.lines.specs.Answers.{saidOfWritten};
+ghost use Rattle.line_room.specs.Written.{saidOfWritten};
 ghost use Rattle.session.specs.Session.{started};
 ghost use Rattle.stepfile_rules.specs.Lines.{lineLength, linesOf};
 ghost use Rattle.stepfile_rules.specs.Files.{lengthSaid, answersTo, answersOf, answeredSaid, answeredRoom};

@@ -1,11 +1,12 @@
-// Executes step files, many in one input: each ends at a `=`, and so do its answers. Serves document 01, "Program `rackrun`",
-// "On either side of each limit" and "Shortcuts that look harmless". The cases are the file stdin, their answers stdout. A
-// heading is a file of its own: no SETTINGS line, so it gets 9.
-use libc::STDIN_FILENO;
+// Executes step files, many in one input: each ends at a `=`, and so do its answers. Serves rules 7. The cases are the file
+// stdin, their answers stdout, written by hand or by the twin. A heading is a file of its own: no SETTINGS line, so it gets 9.
 use libc::STDOUT_FILENO;
 use stepfile::Answered;
 use stepfile::answer_file;
+use streams::Input;
+use streams::read_input;
 ghost use Prim.Native.Nat.{_≤_};
+ghost use mathlib.Core.Path.{_≡_};
 ghost use lib.ListN.{length};
 
 // The length of the file at the front: up to its `=`, or all.
@@ -48,14 +49,40 @@ fn answer_each(input: &[u8], out: &mut [u8]) {
     }
 }
 
-fn main() {
-    let mut input = [0u8; 65536];
-    let mut out = [0u8; 458752];
-    let got = io::read_full(STDIN_FILENO, &mut input);
-    answer_each(&input[..got], &mut out);
-    let long = [10u8; 65537];
-    answer(&long[..65536], &mut out);
-    answer(&long, &mut out);
+// Room for the answers to every input.
+fn answer_room() -> [u8; 458752]
+    ensures { λ r. ⌜ 458752 ≡ length r ⌝ }
+{
+    [0; 458752]
+}
+
+// Line feeds, one more than an input may have bytes.
+fn too_long() -> [u8; 65537]
+    ensures { λ r. ⌜ 65537 ≡ length r ⌝ }
+{
+    [10; 65537]
+}
+
+// What no input file can be: one of the greatest length, one byte more, and one without room for its answers.
+fn answer_ends(out: &mut [u8]) {
+    let long = too_long();
+    answer(&long[..65536], out);
+    answer(&long, out);
     let mut small = [0u8; 6];
     answer(&long[..1], &mut small);
+}
+
+fn run(input: &[u8], out: &mut [u8]) {
+    answer_each(input, out);
+    answer_ends(out);
+}
+
+fn main() {
+    let mut room = io::large_buffer();
+    let mut out = answer_room();
+    let input = read_input(b"stepfile_cases", &mut room);
+    match input {
+        Input::Read(count) => run(&room[..count], &mut out),
+        Input::Failed => {}
+    }
 }

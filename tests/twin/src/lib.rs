@@ -1,5 +1,6 @@
-//! A second implementation of document 01, written from the document alone. The proved program is compared with it byte for
-//! byte. Names follow the document: n, t, eta, delta, p, o and g are its seven settings, r is a reading.
+//! A second implementation of document 01, written from the document and from the list of its open places in docs/DECISIONS.md.
+//! The proved program is compared with it byte for byte. Names follow the document: n, t, eta, delta, p, o and g are its seven
+//! settings, r is a reading.
 
 pub mod census;
 pub mod fault;

@@ -1,6 +1,7 @@
 -- A refusal leaves the bytes, any other answer the record's. Assumes nothing.
-use mathlib.Core.Path.{refl}
+use mathlib.Core.Path.{refl, _∙_}
 use Rattle.firmware_rules.specs.Calls.{leftBy}
+use Rattle.record_bytes.proofs.Held.{held-after}
 use borrow.Author.Needs.{needs}
 use Rattle.firmware.proofs.leave.Statement.{statement}
 use Rattle.firmware.proofs.leave.Tie as tie
@@ -15,8 +16,8 @@ returns : tie.Need-returns
 unfolding leftBy
 returns c = rw (← (c .before .before .is-refused .ensures), c .before .if1 .taken) (c .code-of .ensures, refl)
 
-encode-requires : tie.Need-encode-requires
-encode-requires c κs = c .before .before .before .before .before .pre
+put-record-requires : tie.Need-put-record-requires
+put-record-requires c κs = search needs
 
 code-of-requires-2 : tie.Need-code-of-requires-2
 code-of-requires-2 c κs = search needs
@@ -26,7 +27,7 @@ same-length c = search needs
 
 returns-2 : tie.Need-returns-2
 unfolding leftBy
-returns-2 c = rw (← (c .before .before .before .before .before .before .before .is-refused .ensures), c .before .before .before .before .before .before .if1 .left) (c .code-of2 .ensures, c .before .before .before .encode .ensures)
+returns-2 c = rw (← (c .before .before .before .before .before .before .before .is-refused .ensures), c .before .before .before .before .before .before .if1 .left) (c .code-of2 .ensures, c .before .before .before .put-record .ensures ∙ held-after _ (c .before .before .before .before .before .before .before .before .before .pre) _)
 
 pub leave-spec : {M : Type 1} → statement M
-leave-spec = tie.close (tie.spec is-refused-requires code-of-requires returns encode-requires code-of-requires-2 same-length returns-2)
+leave-spec = tie.close (tie.spec is-refused-requires code-of-requires returns put-record-requires code-of-requires-2 same-length returns-2)

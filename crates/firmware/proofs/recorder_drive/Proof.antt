@@ -4,6 +4,7 @@ use denote.Ref.{now}
 use Rattle.recorder_rules.specs.Recorder.{driveOf}
 use Rattle.firmware_rules.specs.Calls.{driveCall}
 use Rattle.firmware_rules.proofs.Calls.{size, goes, refused}
+use Rattle.record_bytes.proofs.Held.{held}
 use borrow.Author.Needs.{needs}
 use Rattle.firmware.proofs.recorder_drive.Statement.{statement}
 use Rattle.firmware.proofs.recorder_drive.Tie as tie
@@ -23,8 +24,8 @@ returns c =
     let r = refused (c .before .before .before .settings-of .result) (now (c .before .before .before .before .before .args .buffer)) (λ rec. driveOf (c .before .before .before .settings-of .result) rec (c .before .before .before .before .before .args .reading)) (λ none. c .if1 .taken (c .before .call-refusal .ensures ∙ none)) in
     rw (← (c .before .before .before .settings-of .ensures), r) (c .before .call-refusal .ensures, refl)
 
-decode-requires : tie.Need-decode-requires
-decode-requires c κs = size (c .before .before .before .before .settings-of .result) (now (c .before .before .before .before .before .before .args .buffer)) (sym (c .before .before .call-refusal .ensures) ∙ c .before .if1 .left)
+record-in-requires : tie.Need-record-in-requires
+record-in-requires c κs = search needs
 
 drive-requires : tie.Need-drive-requires
 drive-requires c κs = search needs
@@ -38,8 +39,10 @@ same-length-2 c = search needs
 returns-2 : tie.Need-returns-2
 unfolding driveCall
 returns-2 c =
+    let buffer = now (c .before .before .before .before .before .before .before .before .before .before .before .before .args .buffer) in
+    let full = size (c .before .before .before .before .before .before .before .before .before .before .settings-of .result) buffer (sym (c .before .before .before .before .before .before .before .before .call-refusal .ensures) ∙ c .before .before .before .before .before .before .before .if1 .left) in
     let g = goes (c .before .before .before .before .before .before .before .before .before .before .settings-of .result) (now (c .before .before .before .before .before .before .before .before .before .before .before .before .args .buffer)) (λ rec. driveOf (c .before .before .before .before .before .before .before .before .before .before .settings-of .result) rec (c .before .before .before .before .before .before .before .before .before .before .before .before .args .reading)) (sym (c .before .before .before .before .before .before .before .before .call-refusal .ensures) ∙ c .before .before .before .before .before .before .before .if1 .left) in
-    rw (← (c .before .before .before .before .before .before .before .before .before .before .settings-of .ensures), g, ← (c .before .before .before .before .before .decode .ensures), ← (c .before .before .before .drive .ensures)) (c .before .before .leave .ensures)
+    rw (← (c .before .before .before .before .before .before .before .before .before .before .settings-of .ensures), g, ← (c .before .before .before .before .before .record-in .ensures ∙ held buffer full), ← (c .before .before .before .drive .ensures)) (c .before .before .leave .ensures)
 
 pub recorder-drive-spec : {M : Type 1} → statement M
-recorder-drive-spec = tie.close (tie.spec settings-of-requires call-refusal-requires same-length returns decode-requires drive-requires leave-requires same-length-2 returns-2)
+recorder-drive-spec = tie.close (tie.spec settings-of-requires call-refusal-requires same-length returns record-in-requires drive-requires leave-requires same-length-2 returns-2)

@@ -16,8 +16,8 @@ returns-2 : tie.Need-returns-2
 unfolding storeAll
 returns-2 c = rw (c .if2 .taken)
 
-add-store-deadline : tie.Need-add-store-deadline
-add-store-deadline c = search needs
+add-deadline : tie.Need-add-deadline
+add-deadline c = search needs
 
 store-deadline-requires : tie.Need-store-deadline-requires
 store-deadline-requires c κs = search needs
@@ -43,7 +43,7 @@ store-first-spec =
     (tie.spec
     returns
     returns-2
-    add-store-deadline
+    add-deadline
     store-deadline-requires
     returns-3
     store-latest-requires

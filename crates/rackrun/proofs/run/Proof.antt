@@ -13,8 +13,10 @@ use Rattle.rackrun.proofs.run.Tie as tie
 
 fits : (c : tie.After-known-told) → c .before .answered .given .0 .0 ≤ length (c .before .before .before .before .before .answer-file .last .1 .0)
 fits c =
-    let kept : length (c .before .before .before .before .before .answer-file .last .1 .0) ≡ length (now (c .before .before .before .before .before .before .before .before .before .args .out)) = search needs in
-    let k = in-room (now (c .before .before .before .before .before .before .before .before .before .args .input)) (now (c .before .before .before .before .before .before .before .before .before .args .out)) (c .before .answered .given .0 .0) (sym (ap saidOfAnswered (c .before .answered .given .1)) ∙ c .before .before .before .before .before .answer-file .ensures .0) in
+    let called = c .before .before .before .before .before in
+    let a = called .before .before .before .before .args in
+    let kept : length (called .answer-file .last .1 .0) ≡ length (now (a .out)) = search needs in
+    let k = in-room (now (a .input)) (now (a .out)) (c .before .answered .given .0 .0) (sym (ap saidOfAnswered (c .before .answered .given .1)) ∙ called .answer-file .ensures .0) in
     omega (arith, k, kept)
 
 answer-file-requires : tie.Need-answer-file-requires
@@ -23,14 +25,19 @@ answer-file-requires c κs = search needs
 enum-known-answered : tie.Need-enum-known-answered
 enum-known-answered c = search needs
 
-slice-reshare-prefix-write-all : tie.Need-slice-reshare-prefix-write-all
-slice-reshare-prefix-write-all c = fits c
+slice-aggregate-write-output : tie.Need-slice-aggregate-write-output
+slice-aggregate-write-output c = search needs
 
-slice-aggregate-write-all : tie.Need-slice-aggregate-write-all
-slice-aggregate-write-all c = sym (length-take-le (c .before .before .answered .given .0 .0) (c .before .before .before .before .before .before .answer-file .last .1 .0) (fits (c .before)))
+slice-reshare-prefix-write-output : tie.Need-slice-reshare-prefix-write-output
+slice-reshare-prefix-write-output c = fits (c .before)
 
-write-all-requires : tie.Need-write-all-requires
-write-all-requires c κs = search needs
+slice-aggregate-write-output-2 : tie.Need-slice-aggregate-write-output-2
+slice-aggregate-write-output-2 c =
+    let told = c .before .before in
+    sym (length-take-le (told .before .answered .given .0 .0) (told .before .before .before .before .before .answer-file .last .1 .0) (fits told))
+
+write-output-requires : tie.Need-write-output-requires
+write-output-requires c κs = search needs
 
 enum-told : tie.Need-enum-told
 enum-told c = search needs
@@ -48,4 +55,17 @@ returns-2 : tie.Need-returns-2
 returns-2 c = search needs
 
 pub run-spec : {M : Type 1} → statement M
-run-spec = tie.close (tie.spec answer-file-requires enum-known-answered slice-reshare-prefix-write-all slice-aggregate-write-all write-all-requires enum-told same-length returns same-length-2 returns-2)
+run-spec =
+    tie.close
+    (tie.spec
+    answer-file-requires
+    enum-known-answered
+    slice-aggregate-write-output
+    slice-reshare-prefix-write-output
+    slice-aggregate-write-output-2
+    write-output-requires
+    enum-told
+    same-length
+    returns
+    same-length-2
+    returns-2)

@@ -14,7 +14,7 @@ use borrow.Author.Needs.{needs}
 use Rattle.settings.specs.Settings.{P}
 use Rattle.recorder_rules.specs.Recorder.{lacking, lackingFrom, kept, placed, oldest, leases}
 use Rattle.recorder.proofs.Leases.{lacking-ended, lacking-kept, lacking-done, kept-ended, kept-young, placed-push}
-use Rattle.recorder.proofs.Places.{sized}
+use Rattle.recorder_rules.proofs.Places.{sized}
 use Rattle.recorder.proofs.sift.Statement.{statement}
 use Rattle.recorder.proofs.sift.Tie as tie
 

@@ -12,7 +12,7 @@ use Rattle.recorder_rules.specs.Recorder.Event.{tick}
 use Rattle.recorder.specs.declared.Advanced.{Advanced}
 use Rattle.recorder_rules.proofs.Ways.{allowed, Allowed}
 use Rattle.recorder.proofs.Walked.{bounded, by-advance, goes-on, roomy}
-use Rattle.recorder.proofs.Places.{sized}
+use Rattle.recorder_rules.proofs.Places.{sized}
 use Rattle.recorder.proofs.tick.Statement.{statement}
 use Rattle.recorder.proofs.tick.Tie as tie
 

@@ -1,6 +1,6 @@
 -- The claims on step files: each contract gives its outcome outright, or by what the answer says. Assumes nothing.
 use mathlib.Core.Path.{refl, sym, ap, _∙_}
-use Rattle.lines.proofs.Answers.{written-apart}
+use Rattle.line_room.proofs.Written.{written-apart}
 use Rattle.settled.proofs.Apart.{recorder-apart, observer-apart, standby-apart}
 use Rattle.stepfile.proofs.Answers.{answered-apart}
 use Rattle.settled.proofs.files_settled.Statement.{statement}

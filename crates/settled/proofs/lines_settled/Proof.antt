@@ -1,6 +1,7 @@
--- The claims on `lines`: each contract gives its outcome by what the answer says, and the room outright. Assumes nothing.
+-- The claims on `line_room` and `lines`: each contract gives its outcome by what the answer says, and the room outright. Assumes nothing.
 use mathlib.Core.Path.{refl, sym, ap, _∙_}
-use Rattle.lines.proofs.Answers.{read-apart, written-apart}
+use Rattle.line_room.proofs.Written.{written-apart}
+use Rattle.lines.proofs.Answers.{read-apart}
 use Rattle.settled.proofs.lines_settled.Statement.{statement}
 use Rattle.settled.proofs.lines_settled.Tie as tie
 

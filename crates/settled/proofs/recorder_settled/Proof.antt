@@ -1,4 +1,5 @@
--- The claims on `recorder`: each contract gives its outcome by what the answer says, and the record outright. Assumes nothing.
+-- The claims on `recorder_form` and `recorder`: the form is given outright, the outcome of a step by what its answer says and
+-- by the record that it leaves. Assumes nothing.
 use mathlib.Core.Path.{refl, sym, _∙_}
 use Rattle.settled.proofs.Apart.{recorder-apart}
 use Rattle.settled.proofs.recorder_settled.Statement.{statement}
@@ -6,6 +7,7 @@ use Rattle.settled.proofs.recorder_settled.Tie as tie
 
 returns : tie.Need-returns
 returns c = record {
+  «has_form» = λ _ _ _ _ _ _ p q. (p ∙ sym q, refl);
   tick = λ _ _ _ _ _ _ p q. (recorder-apart (p ∙ sym q), refl);
   grant = λ _ _ _ _ _ _ p q. (recorder-apart (p ∙ sym q), refl);
   drive = λ _ _ _ _ _ _ p q. (recorder-apart (p ∙ sym q), refl);

@@ -8,6 +8,7 @@ returns : tie.Need-returns
 returns c = record {
   «slacks_of» = λ _ _ _ _ _ _ p q. (slacks-apart (p ∙ sym q), refl);
   refusal = λ _ _ _ _ _ _ p q. (p ∙ sym q, refl);
+  less = λ _ _ _ _ _ _ p q. (p ∙ sym q, refl);
   «round_window» = λ _ _ _ _ _ _ p q. (p ∙ sym q, refl);
   judge = λ _ _ _ _ _ _ p q. (judged-apart (p ∙ sym q), refl);
   «contains_survival_quorum» = λ _ _ _ _ _ _ p q. (p ∙ sym q, refl);

@@ -1,3 +1,0 @@
--- Laws that the program's proofs need.
-mod Written
-mod Distance

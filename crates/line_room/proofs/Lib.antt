@@ -1,0 +1,2 @@
+-- A writer's answers.
+pub mod Written

@@ -1,0 +1,2 @@
+-- What a buffer of 680 bytes holds.
+pub mod Held

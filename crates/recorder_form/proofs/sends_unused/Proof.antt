@@ -1,0 +1,48 @@
+-- `recorder_form::sends_unused` meets its contract. The loop's invariant: all places are 0 exactly if those passed were and those to
+-- come are. Assumes nothing.
+use Prim.Native.Nat.{_-_}
+use native.Mathlib.Omega.{arith}
+use mathlib.Core.Path.{_≡_, refl}
+use mathlib.Core.Bool.{_&&_}
+use lib.ListN.{drop}
+use Rattle.words.specs.Lists.{every}
+use Rattle.words.proofs.Walks.{every-more, every-done}
+use Rattle.recorder_rules.specs.Recorder.{isZero}
+use Rattle.recorder_form.proofs.sends_unused.Statement.{statement}
+use Rattle.recorder_form.proofs.sends_unused.Tie as tie
+
+abbrev Inv-loop : tie.InvT-loop
+Inv-loop first sends ok₀ i₀ ok i = every isZero (drop first sends) ≡ (ok && every isZero (drop i sends))
+
+abbrev μ-loop : tie.MeasureT-loop
+μ-loop first sends ok₀ i₀ ok i = 64 - i
+
+loop-holds : tie.Need-loop-holds Inv-loop μ-loop
+loop-holds c = refl
+
+mul-ok : tie.Need-mul-ok Inv-loop μ-loop
+mul-ok c = omega arith
+
+array-read-ok : tie.Need-array-read-ok Inv-loop μ-loop
+array-read-ok c = omega arith
+
+add-i : tie.Need-add-i Inv-loop μ-loop
+add-i c = omega arith
+
+loop-less : tie.Need-loop-less Inv-loop μ-loop
+loop-less c = omega arith
+
+loop-again : tie.Need-loop-again Inv-loop μ-loop
+loop-again c =
+    let l = c .before in
+    every-more isZero (l .before .args .t1) (l .loop .i) 0 (l .loop .ok) (omega arith) (l .loop .inv)
+
+returns : tie.Need-returns Inv-loop μ-loop
+returns c =
+    let l = c .before in
+    every-done isZero (l .before .args .t1) (l .loop .i) (l .loop .ok) (omega arith) (l .loop .inv)
+
+pub sends-unused-spec : {M : Type 1} → statement M
+sends-unused-spec =
+    tie.close
+    (tie.spec Inv-loop μ-loop loop-holds mul-ok array-read-ok add-i loop-less loop-again returns)

@@ -1,0 +1,2 @@
+-- What a program reads and writes: rule 7.12.
+pub mod Streams
