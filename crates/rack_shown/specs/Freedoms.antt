@@ -1,7 +1,7 @@
 -- One run in which everything happens that a run allows: messages that arrive twice, late, or behind newer ones; every cut;
--- crashes; polls; silent requests; every refusal that a run can come to; clocks ahead and behind, each read to the margin of its
--- rounding; two rounds at one reading; several events on a tick; and a verdict after dead. It is shown by computation, so that
--- a model that loses one of these freedoms no longer proves.
+-- crashes and a restart; polls; silent requests; every refusal that a run can come to; clocks ahead and behind, each read to the
+-- margin of its rounding; two rounds at one reading; several events on a tick; and a verdict after dead. It is shown by
+-- computation, so that a model that loses one of these freedoms no longer proves.
 use Prim.Native.Nat.{ℕ, _+_}
 use native.Mathlib.Omega.{arith}
 use mathlib.Core.List.{List, [], _∷_}
@@ -16,7 +16,7 @@ use Rattle.observer_rules.specs.Observer.Event.{request, cut, check}
 use Rattle.standby_rules.specs.Standby.Event.{begin, ack, poll}
 use Rattle.rack.specs.Clocks.{Clock, Clocks}
 use Rattle.rack.specs.Runs.{ours}
-use Rattle.rack.specs.Runs.Event.{atRecorder, atObserver, atStandby, crash}
+use Rattle.rack.specs.Runs.Event.{atRecorder, atObserver, atStandby, crash, restart}
 use Rattle.rack_shown.specs.Tables.{ahead, Line, _gets_, AsWritten}
 
 -- three observers, two of which suffice: W = 2, slacks 0, 0, 122
@@ -94,8 +94,12 @@ everything =
     ∷ atStandby 27 25 (ack 1 25 2 Alive) gets saysOf "alive" 2
     ∷ atStandby 30 28 begin gets sends (Check 28)
     ∷ atStandby 31 29 poll gets says "waiting"
-    ∷ atStandby 33 31 poll gets says "late"
-    ∷ atRecorder 33 35 drive gets says "stopped"
+    -- the standby loses its record, and the round with it
+    ∷ restart 31 gets refuses 0
+    ∷ atStandby 31 29 poll gets refuses 7
+    ∷ atStandby 31 29 begin gets sends (Check 29)
+    ∷ atStandby 34 32 poll gets says "late"
+    ∷ atRecorder 34 36 drive gets says "stopped"
     ∷ []
 
 abbrev pub EverythingHappens : Type 0
