@@ -13,18 +13,20 @@ use Rattle.words.specs.Tests.{_=?_}
 use Rattle.words.specs.Lists.{text, every}
 use Rattle.words.specs.Said.{Said, number}
 use Rattle.words.specs.Said.Said.{refusal, gives}
-use Rattle.words.proofs.Booleans.{both-hold}
+use Rattle.words.proofs.Booleans.{both-hold, whether}
 use Rattle.words.proofs.Walks.{every-append}
-use Rattle.fields.specs.Decimals.{isDigit, digits, digitsIn}
-use Rattle.fields.proofs.Digits.{digits-twenty, digits-all}
-use Rattle.fields.proofs.Reading.{digit-range}
+use Rattle.decimals.specs.Decimals.{isDigit, digits, digitsIn}
+use Rattle.decimals.proofs.Digits.{digits-twenty, digits-all}
+use Rattle.decimals.proofs.Reading.{digit-range}
 use Rattle.settings.specs.declared.Settings.{Settings}
+use Rattle.settings.specs.Settings.{refusalOf}
 use Rattle.settings.specs.Answers.{Values, judged}
 use Rattle.messages.specs.declared.Status.the-variants.{Alive, Dead}
 use Rattle.messages.specs.declared.Message.the-variants.{LeaseRequest, LeaseGrant, Check, CheckAck}
 use Rattle.messages.specs.declared.Answer.{Answer}
-use Rattle.messages.specs.declared.Answer.the-variants.{Refused, Send, Unregistered, Running, Stopped, Silent, Cut, Waiting, Late, Unknown, Dead as SaysDead, Alive as SaysAlive}
-use Rattle.messages.specs.Answers.{says, said}
+use Rattle.messages.specs.declared.Answer.the-variants.{Refused, Send, Say}
+use Rattle.messages.specs.declared.Word.the-variants.{Unregistered, Running, Stopped, Silent, Cut, Waiting, Late, Unknown, Dead as SaysDead, Alive as SaysAlive}
+use Rattle.messages.specs.Answers.{says, said, wordsOf}
 use Rattle.lines_rules.specs.Writing.{joined, oneNumber, twoNumbers}
 use Rattle.answer_lines.specs.Answers.{answerLine, signed, valueFields, settingsAnswer}
 use Rattle.answer_lines.proofs.Lines.{refusal-line, request-line, grant-line, check-line, alive-line, dead-line, word-line, value-line}
@@ -77,7 +79,9 @@ two-numbers front a b end p q l m =
     let e = digits-twenty b in
     record {
       front = front ++ digits a ++ text "\t" ++ digits b ++ end;
-      plain = also (front ++ digits a ++ text "\t" ++ digits b) end (tabbed (front ++ digits a) (digits b) (also front (digits a) p (number-plain a)) (number-plain b)) q;
+      plain =
+          also (front ++ digits a ++ text "\t" ++ digits b) end
+          (tabbed (front ++ digits a) (digits b) (also front (digits a) p (number-plain a)) (number-plain b)) q;
       is = simp append-assoc;
       short = simp length-append (omega arith);
     }
@@ -93,23 +97,25 @@ word w p l =
 
 -- a step's answer
 pub answer-line : (a : Answer) → OneLine 60 (answerLine (said a))
-unfolding said every
+unfolding said wordsOf every
 answer-line (Refused k) = rw (refusal-line k) (one-number [] k refl (omega arith))
 answer-line (Send (LeaseRequest c)) = rw (request-line c) (one-number (text "0\tLEASE-REQUEST\t") c refl (omega arith))
 answer-line (Send (LeaseGrant c)) = rw (grant-line c) (one-number (text "0\tLEASE-GRANT\t") c refl (omega arith))
 answer-line (Send (Check ts)) = rw (check-line ts) (one-number (text "0\tCHECK\t") ts refl (omega arith))
-answer-line (Send (CheckAck ts c Alive)) = rw (alive-line ts c) (two-numbers (text "0\tCHECK-ACK\t") ts c (text "\tAlive") refl refl (omega arith) (omega arith))
-answer-line (Send (CheckAck ts c Dead)) = rw (dead-line ts c) (two-numbers (text "0\tCHECK-ACK\t") ts c (text "\tDead") refl refl (omega arith) (omega arith))
-answer-line Unregistered = word "unregistered" refl (omega arith)
-answer-line Running = word "running" refl (omega arith)
-answer-line Stopped = word "stopped" refl (omega arith)
-answer-line Silent = word "silent" refl (omega arith)
-answer-line Cut = word "cut" refl (omega arith)
-answer-line Waiting = word "waiting" refl (omega arith)
-answer-line Late = word "late" refl (omega arith)
-answer-line Unknown = word "unknown" refl (omega arith)
-answer-line (SaysDead m) = rw (value-line "dead" m) (one-number (text "0\tdead\t") m refl (omega arith))
-answer-line (SaysAlive m) = rw (value-line "alive" m) (one-number (text "0\talive\t") m refl (omega arith))
+answer-line (Send (CheckAck ts c Alive)) =
+    rw (alive-line ts c) (two-numbers (text "0\tCHECK-ACK\t") ts c (text "\tAlive") refl refl (omega arith) (omega arith))
+answer-line (Send (CheckAck ts c Dead)) =
+    rw (dead-line ts c) (two-numbers (text "0\tCHECK-ACK\t") ts c (text "\tDead") refl refl (omega arith) (omega arith))
+answer-line (Say Unregistered) = word "unregistered" refl (omega arith)
+answer-line (Say Running) = word "running" refl (omega arith)
+answer-line (Say Stopped) = word "stopped" refl (omega arith)
+answer-line (Say Silent) = word "silent" refl (omega arith)
+answer-line (Say Cut) = word "cut" refl (omega arith)
+answer-line (Say Waiting) = word "waiting" refl (omega arith)
+answer-line (Say Late) = word "late" refl (omega arith)
+answer-line (Say Unknown) = word "unknown" refl (omega arith)
+answer-line (Say (SaysDead m)) = rw (value-line "dead" m) (one-number (text "0\tdead\t") m refl (omega arith))
+answer-line (Say (SaysAlive m)) = rw (value-line "alive" m) (one-number (text "0\talive\t") m refl (omega arith))
 
 -- ---- the settings' answer
 
@@ -123,9 +129,9 @@ unfolding signed
 signed-most (pos n) = let d = digits-twenty n in omega arith
 signed-most (negsuc n) = let d = digits-twenty (suc n) in omega arith
 
-refused : (k : ℕ) → OneLine 89 (oneNumber [] k)
-unfolding every
-refused k =
+refused-line : (k : ℕ) → OneLine 89 (joined (digits k ∷ []))
+unfolding joined every
+refused-line k =
     let l = one-number [] k refl (omega arith) in
     record { front = l .front; plain = l .plain; is = l .is; short = let d = l .short in omega arith }
 
@@ -134,10 +140,9 @@ zeroed : (xs : List ℕ) → Plain xs → Plain (text "0\t" ++ xs)
 unfolding every
 zeroed xs p = also (text "0\t") xs refl p
 
-values : (answer : Said Values) → OneLine 89 (joined (digits (number answer) ∷ valueFields answer))
-unfolding joined number valueFields digits digitsIn
-values (refusal k) = refused k
-values (gives v) =
+values-line : (v : Values) → OneLine 89 (joined (digits 0 ∷ valueFields (gives v)))
+unfolding joined valueFields digits digitsIn
+values-line v =
     let W = digits (v .W) in
     let a = signed (v .slacks .a) in
     let b = signed (v .slacks .b) in
@@ -150,9 +155,13 @@ values (gives v) =
       front = text "0\t" ++ W ++ tab ++ a ++ tab ++ b ++ tab ++ c;
       plain = tabbed (text "0\t" ++ W ++ tab ++ a ++ tab ++ b) c three (signed-plain (v .slacks .c));
       is = simp append-assoc;
-      short = simp length-append (omega (arith, digits-twenty (v .W), signed-most (v .slacks .a), signed-most (v .slacks .b), signed-most (v .slacks .c)));
+      short =
+          simp length-append (omega
+          (arith, digits-twenty (v .W), signed-most (v .slacks .a), signed-most (v .slacks .b), signed-most (v .slacks .c)));
     }
 
 pub settings-line : (s : Settings) → OneLine 89 (settingsAnswer s)
-unfolding settingsAnswer
-settings-line s = values (judged s)
+unfolding settingsAnswer judged number valueFields
+settings-line s =
+    whether (λ (answer : Said Values). OneLine 89 (joined (digits (number answer) ∷ valueFields answer))) (refusalOf s =? 0)
+    (λ _. values-line _) (λ _. refused-line (refusalOf s))

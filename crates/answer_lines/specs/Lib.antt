@@ -1,2 +1,3 @@
--- Document 01, "Program `rackrun`": the lines of its answers.
+-- Rules 7.6 and 7.7: the lines of answers.
 pub mod Answers
+pub mod Parts

@@ -1,7 +1,7 @@
 // The lines that answer a step file. Serves rules 7.6 and 7.7.
-use fields::digit_count;
+use decimals::digit_count;
+use decimals::put_number;
 use fields::put_bytes;
-use fields::put_number;
 use line_room::LineWritten;
 use line_room::write_one;
 use line_room::write_two;
@@ -9,6 +9,7 @@ use line_room::write_word;
 use messages::Answer;
 use messages::Message;
 use messages::Status;
+use messages::Word;
 use settings::Judged;
 use settings::Settings;
 use settings::judge;
@@ -16,10 +17,11 @@ ghost use mathlib.Core.Path.{_≡_};
 ghost use mathlib.Core.Bool.{false};
 ghost use lib.IntN.{pos};
 ghost use Rattle.settings.specs.Settings.{negative};
-ghost use Rattle.messages.specs.Answers.{said, sends};
+ghost use Rattle.messages.specs.Answers.{said, sends, speaks, wordsOf};
 ghost use Rattle.line_room.specs.Written.{saidOfWritten};
 ghost use Rattle.lines_rules.specs.Writing.{fitting, filled};
-ghost use Rattle.answer_lines.specs.Answers.{answerLine, valuesLine, settingsAnswer};
+ghost use Rattle.answer_lines.specs.Answers.{answerLine, settingsAnswer};
+ghost use Rattle.answer_lines.specs.Parts.{valuesLine};
 
 fn write_message(m: Message, out: &mut [u8]) -> LineWritten
     ensures { λ r. ⌜ (saidOfWritten r ≡ fitting (answerLine (sends m)) (now (out .entry))) × (now (out .exit) ≡ filled (answerLine (sends m)) (now (out .entry))) ⌝ }
@@ -35,6 +37,23 @@ fn write_message(m: Message, out: &mut [u8]) -> LineWritten
     }
 }
 
+fn write_said(word: Word, out: &mut [u8]) -> LineWritten
+    ensures { λ r. ⌜ (saidOfWritten r ≡ fitting (answerLine (speaks (wordsOf word))) (now (out .entry))) × (now (out .exit) ≡ filled (answerLine (speaks (wordsOf word))) (now (out .entry))) ⌝ }
+{
+    match word {
+        Word::Unregistered => write_word(b"0\tunregistered\n", out),
+        Word::Running => write_word(b"0\trunning\n", out),
+        Word::Stopped => write_word(b"0\tstopped\n", out),
+        Word::Silent => write_word(b"0\tsilent\n", out),
+        Word::Cut => write_word(b"0\tcut\n", out),
+        Word::Waiting => write_word(b"0\twaiting\n", out),
+        Word::Late => write_word(b"0\tlate\n", out),
+        Word::Unknown => write_word(b"0\tunknown\n", out),
+        Word::Dead(m) => write_one(b"0\tdead\t", m, out),
+        Word::Alive(m) => write_one(b"0\talive\t", m, out),
+    }
+}
+
 // Writes the line of a step's answer at the front of the room, or nothing where it does not fit.
 pub fn write_answer(answer: Answer, out: &mut [u8]) -> LineWritten
     ensures { λ r. ⌜ (saidOfWritten r ≡ fitting (answerLine (said answer)) (now (out .entry))) × (now (out .exit) ≡ filled (answerLine (said answer)) (now (out .entry))) ⌝ }
@@ -42,16 +61,7 @@ pub fn write_answer(answer: Answer, out: &mut [u8]) -> LineWritten
     match answer {
         Answer::Refused(number) => write_one(b"", number as u64, out),
         Answer::Send(m) => write_message(m, out),
-        Answer::Unregistered => write_word(b"0\tunregistered\n", out),
-        Answer::Running => write_word(b"0\trunning\n", out),
-        Answer::Stopped => write_word(b"0\tstopped\n", out),
-        Answer::Silent => write_word(b"0\tsilent\n", out),
-        Answer::Cut => write_word(b"0\tcut\n", out),
-        Answer::Waiting => write_word(b"0\twaiting\n", out),
-        Answer::Late => write_word(b"0\tlate\n", out),
-        Answer::Unknown => write_word(b"0\tunknown\n", out),
-        Answer::Dead(m) => write_one(b"0\tdead\t", m, out),
-        Answer::Alive(m) => write_one(b"0\talive\t", m, out),
+        Answer::Say(word) => write_said(word, out),
     }
 }
 

@@ -1,4 +1,2 @@
--- Laws of digits, of reading and of the room written into, for the crates above.
-pub mod Digits
-pub mod Reading
+-- Laws of words and of the room written into, for the crates above.
 pub mod Rooms

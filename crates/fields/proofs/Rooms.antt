@@ -21,9 +21,15 @@ pub put-first : (l : List ℕ) (d : ℕ) → 0 < length l → set l 0 d ≡ d �
 put-first [] d h = absurd (not-suc-le-zero h)
 put-first (x ∷ l) d h = refl
 
-pub put-next : (ds l : List ℕ) (d : ℕ) → length ds < length l → set (ds ++ drop (length ds) l) (length ds) d ≡ (ds ++ (d ∷ [])) ++ drop (length ds + 1) l
+pub put-next : (ds l : List ℕ) (d : ℕ) → length ds < length l
+    → set (ds ++ drop (length ds) l) (length ds) d ≡ (ds ++ (d ∷ [])) ++ drop (length ds + 1) l
 put-next ds l d h =
-    rw (drop-cons l (length ds) 0 h, set-append-seam ds (getD l (length ds) 0) (drop (suc (length ds)) l) d, add-one (length ds), append-assoc)
+    rw (
+      drop-cons l (length ds) 0 h,
+      set-append-seam ds (getD l (length ds) 0) (drop (suc (length ds)) l) d,
+      add-one (length ds),
+      append-assoc,
+    )
 
 -- bytes that fit
 pub put-fits : (room : List ℕ) (at : ℕ) (bytes : List ℕ) → at + length bytes ≤ length room
@@ -31,7 +37,8 @@ pub put-fits : (room : List ℕ) (at : ℕ) (bytes : List ℕ) → at + length b
 unfolding putAt
 put-fits room at bytes h = rw (le-leb (at + length bytes) (length room) h)
 
-pub next-fits : (room : List ℕ) (at : ℕ) (bytes : List ℕ) → at + length bytes ≤ length room → nextPlace room at bytes ≡ at + length bytes
+pub next-fits : (room : List ℕ) (at : ℕ) (bytes : List ℕ) → at + length bytes ≤ length room
+    → nextPlace room at bytes ≡ at + length bytes
 unfolding nextPlace
 next-fits room at bytes h = rw (le-leb (at + length bytes) (length room) h)
 
@@ -60,7 +67,11 @@ pub put-behind : (done room bytes : List ℕ) → length done + length bytes ≤
     → putAt (done ++ drop (length done) room) (length done) bytes ≡ (done ++ bytes) ++ drop (length done + length bytes) room
 put-behind done room bytes h =
     put-fits (done ++ drop (length done) room) (length done) bytes (simp (length-append, length-drop) (omega arith))
-    ∙ rw (take-append-seam done (drop (length done) room), drop-append-add done (drop (length done) room) (length bytes), drop-drop (length bytes) (length done) room)
+    ∙ rw (
+      take-append-seam done (drop (length done) room),
+      drop-append-add done (drop (length done) room) (length bytes),
+      drop-drop (length bytes) (length done) room,
+    )
 
 -- nothing put changes nothing, and bytes behind bytes are bytes put at once
 pub put-nothing : (room : List ℕ) (at : ℕ) → at ≤ length room → room ≡ putAt room at []
@@ -70,9 +81,11 @@ pub put-more : (room : List ℕ) (at : ℕ) (done bytes : List ℕ) → at + len
     → putAt (putAt room at done) (at + length done) bytes ≡ putAt room at (done ++ bytes)
 put-more room at done bytes h =
     let front = take at room ++ done in
-    let size : length front ≡ at + length done = length-append (take at room) done ∙ ap (λ (k : ℕ). k + length done) (length-take-le at room (omega arith)) in
+    let size : length front ≡ at + length done =
+    length-append (take at room) done ∙ ap (λ (k : ℕ). k + length done) (length-take-le at room (omega arith)) in
     let both : length front + length bytes ≡ at + length (done ++ bytes) = rw (length-append done bytes) (omega (arith, size)) in
-    let held : putAt room at done ≡ front ++ drop (length front) room = put-fits room at done (omega arith) ∙ ap (λ (k : ℕ). front ++ drop k room) (sym size) in
+    let held : putAt room at done ≡ front ++ drop (length front) room =
+    put-fits room at done (omega arith) ∙ ap (λ (k : ℕ). front ++ drop k room) (sym size) in
     let last : putAt room at (done ++ bytes) ≡ take at room ++ (done ++ bytes) ++ drop (at + length (done ++ bytes)) room
     = put-fits room at (done ++ bytes) (omega (arith, both, size)) in
     ap₂ (λ (l : List ℕ) (k : ℕ). putAt l k bytes) held (sym size)
@@ -84,7 +97,8 @@ put-more room at done bytes h =
 
 -- one byte of agreement
 pub agree-next : (s word : List ℕ) (i : ℕ) → i < length s → i < length word
-    → agree (drop i s) (drop i word) ≡ (if getD s i 0 =? getD word i 0 then suc (agree (drop (i + 1) s) (drop (i + 1) word)) else 0)
+    → agree (drop i s) (drop i word)
+    ≡ (if getD s i 0 =? getD word i 0 then suc (agree (drop (i + 1) s) (drop (i + 1) word)) else 0)
 unfolding agree
 agree-next [] word i h k = absurd (not-suc-le-zero h)
 agree-next (x ∷ s) [] i h k = absurd (not-suc-le-zero k)
@@ -127,10 +141,12 @@ pub record Put (done room l : List ℕ) (at : ℕ) : Type 0 where
 pub put-none : (room : List ℕ) → Put [] room room 0
 put-none room = record { holds = refl; place = refl }
 
-pub put-then : (done room bytes : List ℕ) {l l′ : List ℕ} {at at′ : ℕ} → Put done room l at → length done + length bytes ≤ length room
+pub put-then : (done room bytes : List ℕ) {l l′ : List ℕ} {at at′ : ℕ} → Put done room l at
+    → length done + length bytes ≤ length room
     → at′ ≡ nextPlace l at bytes → l′ ≡ putAt l at bytes → Put (done ++ bytes) room l′ at′
 put-then done room bytes p h e f =
-    let fits = next-fits (done ++ drop (length done) room) (length done) bytes (simp (length-append, length-drop) (omega arith)) in
+    let fits =
+    next-fits (done ++ drop (length done) room) (length done) bytes (simp (length-append, length-drop) (omega arith)) in
     record {
       holds = rw (length-append done bytes) (f ∙ rw (p .place, p .holds) (put-behind done room bytes h));
       place = e ∙ rw (p .place, p .holds) (fits ∙ sym (length-append done bytes));
@@ -138,7 +154,8 @@ put-then done room bytes p h e f =
 
 -- what a call that writes bytes at the front of the part from `at` on leaves of the whole
 pub put-part : (room : List ℕ) (at : ℕ) (bytes : List ℕ) → at + length bytes ≤ length room
-    → putMid at (length room - at) room (bytes ++ drop (length bytes) (take (length room - at) (drop at room))) ≡ putAt room at bytes
+    → putMid at (length room - at) room (bytes ++ drop (length bytes) (take (length room - at) (drop at room))) ≡ putAt room
+    at bytes
 put-part room at bytes h =
     let e = drop-of-length-le (drop at room) {i = length room - at} (rw (length-drop at room) (omega arith)) in
     rw (part-from at room, e, put-fits room at bytes h, drop-drop (length bytes) at room, append-nil, append-assoc)

@@ -1,3 +1,2 @@
--- Document 01, "Message lines": numbers and words.
-pub mod Decimals
+-- Rule 6.4: words and the places of bytes.
 pub mod Places

@@ -37,7 +37,8 @@ word-back : (count w : ℕ) → w < 256 ^ count → wordOf (bytesIn count w) ≡
 unfolding bytesIn wordOf
 word-back zero w h = omega arith
 word-back (suc count) w h =
-    let less : w / 256 < 256 ^ count = div-lt-iff-lt-mul {k = 256} {x = w} {y = 256 ^ count} (omega arith) .1 (rw (pow-suc 256 count) at h) in
+    let less : w / 256 < 256 ^ count =
+    div-lt-iff-lt-mul {k = 256} {x = w} {y = 256 ^ count} (omega arith) .1 (rw (pow-suc 256 count) at h) in
     rw (word-back count (w / 256) less) (omega arith)
 
 -- ---- many words
@@ -48,7 +49,8 @@ every-take test zero xs e = refl
 every-take test (suc k) [] e = refl
 every-take test (suc k) (x ∷ xs) e = let p = both-hold (test x) (every test xs) e in rw (p .0) (every-take test k xs (p .1))
 
-all-bytes-back : (count : ℕ) (bytes : List ℕ) → length bytes ≡ 8 * count → every isByte bytes ≡ true → bytesOf (wordsAt count bytes) ≡ bytes
+all-bytes-back : (count : ℕ) (bytes : List ℕ) → length bytes ≡ 8 * count → every isByte bytes ≡ true
+    → bytesOf (wordsAt count bytes) ≡ bytes
 unfolding bytesOf wordsAt
 all-bytes-back zero [] l e = refl
 all-bytes-back zero (byte ∷ bytes) l e = absurd (let z : ⊥ = omega arith in z)
@@ -65,14 +67,17 @@ all-words-back [] e = refl
 all-words-back (w ∷ ws) e =
     let p = both-hold (isWord w) (every isWord ws) e in
     let eight = bytes-length 8 w in
-    let front : take 8 (bytesIn 8 w ++ bytesOf ws) ≡ bytesIn 8 w = ap (λ (k : ℕ). take k (bytesIn 8 w ++ bytesOf ws)) (sym eight) ∙ take-append-seam (bytesIn 8 w) (bytesOf ws) in
-    let back : drop 8 (bytesIn 8 w ++ bytesOf ws) ≡ bytesOf ws = ap (λ (k : ℕ). drop k (bytesIn 8 w ++ bytesOf ws)) (sym eight) ∙ drop-append-seam (bytesIn 8 w) (bytesOf ws) in
+    let front : take 8 (bytesIn 8 w ++ bytesOf ws) ≡ bytesIn 8 w =
+    ap (λ (k : ℕ). take k (bytesIn 8 w ++ bytesOf ws)) (sym eight) ∙ take-append-seam (bytesIn 8 w) (bytesOf ws) in
+    let back : drop 8 (bytesIn 8 w ++ bytesOf ws) ≡ bytesOf ws =
+    ap (λ (k : ℕ). drop k (bytesIn 8 w ++ bytesOf ws)) (sym eight) ∙ drop-append-seam (bytesIn 8 w) (bytesOf ws) in
     rw (front, back, word-back 8 w (ltb-true w (2 ^ 64) (p .0)), all-words-back ws (p .1)) refl
 
 -- ---- the record
 
 numbers-back : (ws : List ℕ) → length ws ≡ 85 → numbersOf (recordOf ws) ≡ ws
-numbers-back (a ∷ (b ∷ (c ∷ (d ∷ (e ∷ rest))))) l = ap (λ (ws : List ℕ). a ∷ (b ∷ (c ∷ (d ∷ (e ∷ ws))))) (take-append-drop 64 rest)
+numbers-back (a ∷ (b ∷ (c ∷ (d ∷ (e ∷ rest))))) l =
+    ap (λ (ws : List ℕ). a ∷ (b ∷ (c ∷ (d ∷ (e ∷ ws))))) (take-append-drop 64 rest)
 numbers-back [] l = absurd (let z : ⊥ = omega arith in z)
 numbers-back (a ∷ []) l = absurd (let z : ⊥ = omega arith in z)
 numbers-back (a ∷ (b ∷ [])) l = absurd (let z : ⊥ = omega arith in z)
@@ -94,7 +99,9 @@ bytes-come-back bytes size e = rw (numbers-back (wordsAt 85 bytes) (words-length
 pub record-comes-back : RecordComesBack
 unfolding encoded decoded
 record-comes-back rec full e =
-    let eighty : length (rec .sends ++ rec .grants) ≡ 80 = length-append (rec .sends) (rec .grants) ∙ rw (full .sends, full .grants) refl in
+    let eighty : length (rec .sends ++ rec .grants) ≡ 80 =
+    length-append (rec .sends) (rec .grants) ∙ rw (full .sends, full .grants) refl in
     let count : length (numbersOf rec) ≡ 85 = omega (arith, eighty) in
-    let words : wordsAt 85 (bytesOf (numbersOf rec)) ≡ numbersOf rec = ap (λ (k : ℕ). wordsAt k (bytesOf (numbersOf rec))) (sym count) ∙ all-words-back (numbersOf rec) e in
+    let words : wordsAt 85 (bytesOf (numbersOf rec)) ≡ numbersOf rec =
+    ap (λ (k : ℕ). wordsAt k (bytesOf (numbersOf rec))) (sym count) ∙ all-words-back (numbersOf rec) e in
     rw words (record-back rec full)

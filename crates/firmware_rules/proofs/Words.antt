@@ -17,7 +17,8 @@ use Rattle.firmware_rules.specs.Bytes.{wordOf, bytesIn, wordsAt, bytesOf
 byte-more : (b : List ℕ) (at k : ℕ) → at < length b → take (suc k) (drop at b) ≡ getD b at 0 ∷ take k (drop (at + 1) b)
 byte-more b at k h = rw (drop-cons b at 0 h, add-one at) refl
 
-word-more : (b : List ℕ) (at k : ℕ) → at < length b → wordOf (take (suc k) (drop at b)) ≡ getD b at 0 + 256 * wordOf (take k (drop (at + 1) b))
+word-more : (b : List ℕ) (at k : ℕ) → at < length b
+    → wordOf (take (suc k) (drop at b)) ≡ getD b at 0 + 256 * wordOf (take k (drop (at + 1) b))
 unfolding wordOf
 word-more b at k h = rw (byte-more b at k h) refl
 
@@ -33,7 +34,8 @@ abbrev byte : List ℕ → (at i rest : ℕ) → ℕ
 byte b at i rest = getD b (at + i) 0 + 256 * rest
 
 pub word-bytes : (b : List ℕ) (at : ℕ) → at + 8 ≤ length b
-    → wordOf (take 8 (drop at b)) ≡ getD b at 0 + 256 * byte b at 1 (byte b at 2 (byte b at 3 (byte b at 4 (byte b at 5 (byte b at 6 (byte b at 7 0))))))
+    → wordOf (take 8 (drop at b)) ≡ getD b at 0 + 256 * byte b at 1
+    (byte b at 2 (byte b at 3 (byte b at 4 (byte b at 5 (byte b at 6 (byte b at 7 0))))))
 unfolding wordOf
 word-bytes b at h =
     word-more b at 7 (omega arith)
@@ -56,8 +58,10 @@ pub words-more : (count : ℕ) (b : List ℕ) → wordsAt (suc count) b ≡ word
 unfolding wordsAt
 words-more zero b = refl
 words-more (suc count) b =
-    let e : drop (8 * count) (drop 8 b) ≡ drop (8 * suc count) b = drop-drop (8 * count) 8 b ∙ ap (λ (k : ℕ). drop k b) (eights count) in
-    ap (λ (ws : List ℕ). wordOf (take 8 b) ∷ ws) (words-more count (drop 8 b) ∙ ap (λ (part : List ℕ). wordsAt count (drop 8 b) ++ (wordOf (take 8 part) ∷ [])) e)
+    let e : drop (8 * count) (drop 8 b) ≡ drop (8 * suc count) b =
+    drop-drop (8 * count) 8 b ∙ ap (λ (k : ℕ). drop k b) (eights count) in
+    ap (λ (ws : List ℕ). wordOf (take 8 b) ∷ ws)
+    (words-more count (drop 8 b) ∙ ap (λ (part : List ℕ). wordsAt count (drop 8 b) ++ (wordOf (take 8 part) ∷ [])) e)
   where
     eights : (count : ℕ) → 8 + 8 * count ≡ 8 * suc count
     eights count = omega arith
@@ -88,7 +92,8 @@ words-at k zero b h = absurd (not-suc-le-zero h)
 words-at zero (suc count) b h = refl
 words-at (suc k) (suc count) b h =
     let e : 8 + 8 * k ≡ 8 * suc k = omega arith in
-    words-at k count (drop 8 b) (le-of-suc-le-suc h) ∙ ap (λ (part : List ℕ). wordOf (take 8 part)) (drop-drop (8 * k) 8 b ∙ ap (λ (j : ℕ). drop j b) e)
+    words-at k count (drop 8 b) (le-of-suc-le-suc h) ∙ ap (λ (part : List ℕ). wordOf (take 8 part))
+    (drop-drop (8 * k) 8 b ∙ ap (λ (j : ℕ). drop j b) e)
 
 -- ---- bytes of words
 
@@ -100,38 +105,45 @@ bytes-length (suc count) w = ap suc (bytes-length count (w / 256))
 pub words-bytes-length : (ws : List ℕ) → length (bytesOf ws) ≡ 8 * length ws
 unfolding bytesOf
 words-bytes-length [] = refl
-words-bytes-length (w ∷ ws) = length-append (bytesIn 8 w) (bytesOf ws) ∙ rw (bytes-length 8 w, words-bytes-length ws) (omega arith)
+words-bytes-length (w ∷ ws) =
+    length-append (bytesIn 8 w) (bytesOf ws) ∙ rw (bytes-length 8 w, words-bytes-length ws) (omega arith)
 
 pub bytes-append : (ws vs : List ℕ) → bytesOf (ws ++ vs) ≡ bytesOf ws ++ bytesOf vs
 unfolding bytesOf
 bytes-append [] vs = refl
-bytes-append (w ∷ ws) vs = ap (λ (l : List ℕ). bytesIn 8 w ++ l) (bytes-append ws vs) ∙ sym (append-assoc (bytesIn 8 w) (bytesOf ws) (bytesOf vs))
+bytes-append (w ∷ ws) vs =
+    ap (λ (l : List ℕ). bytesIn 8 w ++ l) (bytes-append ws vs) ∙ sym (append-assoc (bytesIn 8 w) (bytesOf ws) (bytesOf vs))
 
 -- words put one behind another
 pub puts-next : (room : List ℕ) (at i : ℕ) (ws : List ℕ) → i < length ws → at + 8 * length ws ≤ length room
-    → putAt (putAt room at (bytesOf (take i ws))) (at + 8 * i) (bytesIn 8 (getD ws i 0)) ≡ putAt room at (bytesOf (take (i + 1) ws))
+    → putAt (putAt room at (bytesOf (take i ws))) (at + 8 * i) (bytesIn 8 (getD ws i 0)) ≡ putAt room
+    at (bytesOf (take (i + 1) ws))
 unfolding bytesOf
 puts-next room at i ws h fits =
     let done = bytesOf (take i ws) in
     let next = bytesIn 8 (getD ws i 0) in
     let long : length done ≡ 8 * i = words-bytes-length (take i ws) ∙ ap (λ (k : ℕ). 8 * k) (length-take-le i ws (omega arith)) in
     let more : bytesOf (take (i + 1) ws) ≡ done ++ next
-    = rw (add-one i) (ap bytesOf (take-suc ws i 0 h) ∙ bytes-append (take i ws) (getD ws i 0 ∷ []) ∙ ap (λ (l : List ℕ). done ++ l) (append-nil next)) in
+    = rw (add-one i) (ap bytesOf (take-suc ws i 0 h) ∙ bytes-append (take i ws) (getD ws i 0 ∷ []) ∙ ap
+    (λ (l : List ℕ). done ++ l) (append-nil next)) in
     rw (more, ← long) (put-more room at done next (omega (arith, long, bytes-length 8 (getD ws i 0))))
 
 -- ---- a whole record
 
-put-step : (b done bytes : List ℕ) (at : ℕ) → length done ≡ at → at + length bytes ≤ length b → putAt (putAt b 0 done) at bytes ≡ putAt b 0 (done ++ bytes)
+put-step : (b done bytes : List ℕ) (at : ℕ) → length done ≡ at → at + length bytes ≤ length b
+    → putAt (putAt b 0 done) at bytes ≡ putAt b 0 (done ++ bytes)
 put-step b done bytes at e h =
     ap (λ (k : ℕ). putAt (putAt b 0 done) k bytes) (sym (zero-add (length done) ∙ e)) ∙ put-more b 0 done bytes (omega (arith, e))
 
 put-whole : (b bytes : List ℕ) → length bytes ≡ length b → putAt b 0 bytes ≡ bytes
-put-whole b bytes e = put-fits b 0 bytes (omega (arith, e)) ∙ rw (drop-of-length-le b {i = 0 + length bytes} (omega (arith, e))) (append-nil bytes)
+put-whole b bytes e =
+    put-fits b 0 bytes (omega (arith, e)) ∙ rw (drop-of-length-le b {i = 0 + length bytes} (omega (arith, e))) (append-nil bytes)
 
 pub record-put : (b : List ℕ) (rec : Recorder) → length b ≡ 680 → length (rec .sends) ≡ 64 → length (rec .grants) ≡ 16
     → putAt
     (putAt
-    (putAt (putAt (putAt (putAt (putAt b 0 (bytesIn 8 (rec .stopped))) 8 (bytesIn 8 (rec .counter))) 16 (bytesIn 8 (lastSend rec))) 24 (bytesIn 8 (lastReading rec))) 32 (bytesIn 8 (openLeases rec)))
+    (putAt (putAt (putAt (putAt (putAt b 0 (bytesIn 8 (rec .stopped))) 8 (bytesIn 8 (rec .counter))) 16
+    (bytesIn 8 (lastSend rec))) 24 (bytesIn 8 (lastReading rec))) 32 (bytesIn 8 (openLeases rec)))
     40
     (bytesOf (rec .sends)))
     552

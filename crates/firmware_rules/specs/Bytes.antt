@@ -1,9 +1,17 @@
--- "For C the 85 numbers stand in that order as 8-byte little-endian words, 680 bytes."
+-- Rule 8.1: a record's numbers in their order, as words of 8 bytes, the low byte first.
 use Prim.Native.Nat.{ℕ, zero, suc, _+_, _*_, _/_, _%_}
 use mathlib.Core.List.{List, [], _∷_, _++_}
 use lib.ListN.{take, drop, getD}
+use Rattle.settings.specs.Settings.{mostObservers, mostLeases}
 use Rattle.recorder_rules.specs.declared.Recorder.{Recorder}
 use Rattle.recorder_rules.specs.Recorder.{lastSend, lastReading, openLeases}
+
+-- the numbers of a record, and the bytes that they take
+abbrev pub recordWords : ℕ
+recordWords = 5 + mostLeases + mostObservers
+
+abbrev pub recordBytes : ℕ
+recordBytes = 8 * recordWords
 
 -- bytes as one number, the low byte first
 unfoldable pub wordOf : List ℕ → ℕ
@@ -36,12 +44,12 @@ recordOf ws =
       «last_send» = getD ws 2 0;
       «last_reading» = getD ws 3 0;
       «open_leases» = getD ws 4 0;
-      sends = take 64 (drop 5 ws);
-      grants = drop 69 ws;
+      sends = take mostLeases (drop 5 ws);
+      grants = drop (5 + mostLeases) ws;
     }
 
 unfoldable pub decoded : List ℕ → Recorder
-decoded bytes = recordOf (wordsAt 85 bytes)
+decoded bytes = recordOf (wordsAt recordWords bytes)
 
 unfoldable pub encoded : Recorder → List ℕ
 encoded rec = bytesOf (numbersOf rec)

@@ -8,7 +8,7 @@ use Rattle.words.specs.Tests.{_<?_}
 use Rattle.words.specs.Lists.{every}
 use Rattle.recorder_rules.specs.declared.Recorder.{Recorder}
 use Rattle.recorder_rules.specs.Claims.{Sized}
-use Rattle.firmware_rules.specs.Bytes.{numbersOf, decoded, encoded}
+use Rattle.firmware_rules.specs.Bytes.{recordBytes, numbersOf, decoded, encoded}
 
 -- what a byte and a word can hold
 abbrev pub isByte : ℕ → Bool
@@ -19,7 +19,7 @@ isWord v = v <? 2 ^ 64
 
 -- Encoding what was decoded gives the 680 bytes back.
 abbrev pub BytesComeBack : Type 0
-BytesComeBack = (bytes : List ℕ) → length bytes ≡ 680 → every isByte bytes ≡ true → encoded (decoded bytes) ≡ bytes
+BytesComeBack = (bytes : List ℕ) → length bytes ≡ recordBytes → every isByte bytes ≡ true → encoded (decoded bytes) ≡ bytes
 
 -- Decoding what was encoded gives the record back.
 abbrev pub RecordComesBack : Type 0

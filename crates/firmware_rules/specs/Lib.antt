@@ -1,4 +1,4 @@
--- Document 01, "Recorder": the 680 bytes, and the C calls over them.
+-- Rules 8: the bytes of a record, and the C calls over them.
 pub mod Bytes
 pub mod Calls
 pub mod Claims

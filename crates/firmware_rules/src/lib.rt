@@ -1,4 +1,4 @@
-// The rules of the C calls. Serves document 01, "Recorder": specs/Bytes.antt lays a record out in 680 bytes, specs/Calls.antt says
+// The rules of the C calls. Serves rules 8: specs/Bytes.antt lays a record out in 680 bytes, specs/Calls.antt says
 // what a call returns and leaves, specs/Claims.antt that record and bytes are the same thing; the code is in `firmware`.
 ghost use Rattle.firmware_rules.specs.Claims.{BytesComeBack, RecordComesBack};
 

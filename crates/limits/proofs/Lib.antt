@@ -1,2 +1,2 @@
--- The starred lines of document 01, row by row.
+-- The table of limits, row by row.
 pub mod Starred

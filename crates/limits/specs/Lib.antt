@@ -1,2 +1,2 @@
--- Document 01, "On either side of each limit".
+-- Values on either side of each limit.
 pub mod Limits

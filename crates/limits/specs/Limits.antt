@@ -1,4 +1,4 @@
--- The starred lines: what the definitions give, beside what 01 writes.
+-- Values on either side of each limit: what the definitions give, beside what the customer's paper writes.
 use Prim.Native.Nat.{ℕ}
 use Prim.Native.String.{String}
 use mathlib.Core.List.{List, [], _∷_, map}
@@ -16,12 +16,14 @@ use Rattle.messages.specs.Messages.{Field}
 use Rattle.messages.specs.Messages.Field.{word, number}
 use Rattle.messages.specs.Answers.{Spoken, spokenFields}
 use Rattle.observer_rules.specs.declared.Observer.{Observer}
-use Rattle.observer_rules.specs.Observer.{requestOf, cutOf, checkOf}
+use Rattle.observer_rules.specs.declared.ObserverEvent.the-variants.{Request as request, Cut as cut, Check as check}
+use Rattle.observer_rules.specs.Observer.{stepOf}
 use Rattle.standby_rules.specs.declared.Standby.{Standby}
-use Rattle.standby_rules.specs.Standby.{noPlaces, ackOf}
+use Rattle.standby_rules.specs.declared.StandbyEvent.the-variants.{Ack}
+use Rattle.standby_rules.specs.Standby.{noPlaces, stepOf as standbyStep}
 
--- A row: what is found by the definitions, and what 01 writes. Whole numbers, since a slack may be below zero, and fields of
--- an answer's line.
+-- A row: what is found by the definitions, and what the paper writes. Whole numbers, since a slack may be below zero, and
+-- fields of an answer's line.
 pub record Row : Type 0 where
   pub found : List ℤ × List Field
   pub written : List ℤ × List Field
@@ -58,7 +60,7 @@ round cnt status =
 
 -- the ack of observer 1 that is the last one
 abbrev pub lastAck : Standby → (r cnt : ℕ) → Status → Said Spoken
-lastAck q r cnt status = ackOf usual q r 1 1000 cnt status .answer
+lastAck q r cnt status = standbyStep usual q r (Ack 1 1000 cnt status) .answer
 
 abbrev pub one : String → List Field
 one w = word (text w) ∷ []
@@ -82,13 +84,13 @@ rows =
     ∷ numbers (pos (refusalOf (settings 3 0 100 40 159 235 10)) ∷ []) (pos 1 ∷ [])
     ∷ numbers (pos (refusalOf (settings 3 0 100 40 158 235 10)) ∷ []) (pos 1 ∷ [])
     -- Deadline 1235: Alive at 1234, Dead at 1235.
-    ∷ answers (checkOf usual (observer 1 1235 1000) 0 1234 1200 .answer) 0 (ack 1200 1 "Alive")
-    ∷ answers (checkOf usual (observer 1 1235 1000) 0 1235 1200 .answer) 0 (ack 1200 1 "Dead")
+    ∷ answers (stepOf usual (observer 1 1235 1000) 0 1234 (check 1200) .answer) 0 (ack 1200 1 "Alive")
+    ∷ answers (stepOf usual (observer 1 1235 1000) 0 1235 (check 1200) .answer) 0 (ack 1200 1 "Dead")
     -- Latest 5, request 5: silent.
-    ∷ answers (requestOf usual (observer 5 1235 1000) 0 1100 5 .answer) 0 (one "silent")
+    ∷ answers (stepOf usual (observer 5 1235 1000) 0 1100 (request 5) .answer) 0 (one "silent")
     -- Request 4 kept, request 5 at 2000 cut after one store: latest 4, deadline 2235.
-    ∷ answers (cutOf usual (observer 4 2135 1900) 0 2000 5 1 .answer) 0 (one "cut")
-    ∷ numbers (stored (cutOf usual (observer 4 2135 1900) 0 2000 5 1 .rec)) (pos 4 ∷ pos 2235 ∷ [])
+    ∷ answers (stepOf usual (observer 4 2135 1900) 0 2000 (cut 5 1) .answer) 0 (one "cut")
+    ∷ numbers (stored (stepOf usual (observer 4 2135 1900) 0 2000 (cut 5 1) .rec)) (pos 4 ∷ pos 2235 ∷ [])
     -- Round ts 1000, last ack at 1049: counted. At 1050: late.
     ∷ answers (lastAck (round 7 Alive) 1049 7 Alive) 0 (with-m "alive" 7)
     ∷ answers (lastAck (round 7 Alive) 1050 7 Alive) 0 (one "late")

@@ -1,4 +1,4 @@
-// The starred lines of document 01, "On either side of each limit": one table, one claim about all its rows.
+// The values on either side of each limit that the customer wants proved: one table, one claim about all its rows.
 ghost use Rattle.limits.specs.Limits.{AsWritten};
 
 pub fn starred_lines_hold()

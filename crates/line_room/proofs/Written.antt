@@ -10,7 +10,7 @@ use Rattle.line_room.specs.declared.LineWritten.the-variants.{Length, Ba
 use Rattle.line_room.specs.Written.{saidOfWritten}
 
 abbrev writtenBack : Said ℕ → LineWritten
-writtenBack (refusal k) = if k =? 9 then NotOfForm else Short
+writtenBack (refusal k values) = if k =? 9 then NotOfForm else Short
 writtenBack (gives k) = Length k
 
 pub written-apart : {a a′ : LineWritten} → saidOfWritten a ≡ saidOfWritten a′ → a ≡ a′

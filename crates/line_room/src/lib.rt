@@ -1,8 +1,8 @@
 // Lines written into lent room: a word, or a word with one number or two behind it. The messages' lines and the lines of
 // answers are made of these. Serves rules 6.4 and 6.6. What is written stands in `lines_rules`.
-use fields::digit_count;
+use decimals::digit_count;
+use decimals::put_number;
 use fields::put_bytes;
-use fields::put_number;
 ghost use mathlib.Core.Path.{_≡_};
 ghost use Rattle.lines_rules.specs.Writing.{fitting, filled, oneNumber, twoNumbers};
 ghost use Rattle.line_room.specs.Written.{saidOfWritten};

@@ -9,7 +9,7 @@ use Rattle.lines.specs.declared.LineRead.the-variants.{Got, Bad}
 use Rattle.lines.specs.Answers.{saidOfRead}
 
 abbrev readBack : Said Message → LineRead
-readBack (refusal k) = Bad
+readBack (refusal k values) = Bad
 readBack (gives m) = Got m
 
 pub read-apart : {a a′ : LineRead} → saidOfRead a ≡ saidOfRead a′ → a ≡ a′

@@ -1,2 +1,2 @@
--- Document 01, "Message lines".
+-- What the reader and the writer of message lines answer.
 pub mod Answers

@@ -1,9 +1,9 @@
 // Message lines: one line of text for each message, read from any bytes and written into lent room. Serves rules 6. Each field
 // is read from the part of the line that begins where the field begins. What is read and written stands in `lines_rules`.
-use fields::Number;
+use decimals::Number;
+use decimals::read_number;
 use fields::is_exactly;
 use fields::part_from;
-use fields::read_number;
 use fields::starts;
 use line_room::LineWritten;
 use line_room::write_one;

@@ -4,9 +4,10 @@ use mathlib.Core.Path.{_≡_, refl}
 use mathlib.Core.List.{List, [], _∷_, _++_, append-assoc}
 use lib.ListN.{length, drop}
 use borrow.Author.Tests.{lt-ltb, le-ltb}
-use Rattle.words.specs.Said.Said.{refusal, gives}
+use Rattle.words.specs.Said.{refused}
+use Rattle.words.specs.Said.Said.{gives}
 use Rattle.words.specs.Lists.{text}
-use Rattle.fields.specs.Decimals.{digits}
+use Rattle.decimals.specs.Decimals.{digits}
 use Rattle.messages.specs.declared.Status.the-variants.{Alive, Dead}
 use Rattle.messages.specs.declared.Message.the-variants.{LeaseRequest, LeaseGrant, Check, CheckAck}
 use Rattle.messages.specs.Messages.{fieldsOf, statusWord}
@@ -20,7 +21,7 @@ pub fits-room : (line room : List ℕ) → length line ≤ length room → fille
 unfolding filled
 fits-room line room h = rw (le-ltb (length room) (length line) h)
 
-pub short-said : (line room : List ℕ) → length room < length line → fitting line room ≡ refusal 10
+pub short-said : (line room : List ℕ) → length room < length line → fitting line room ≡ refused 10
 unfolding fitting
 short-said line room h = rw (lt-ltb (length room) (length line) h)
 

@@ -10,12 +10,13 @@ use borrow.Author.Tests.{le-leb, leb-true, eqb-true}
 use Rattle.words.specs.Tests.{if_then_else_, _<?_, _≤?_, _=?_}
 use Rattle.words.specs.Lists.{text}
 use Rattle.words.proofs.Booleans.{not-both, both-hold}
-use Rattle.words.specs.Said.Said.{refusal, gives}
-use Rattle.fields.specs.declared.Number.{Number}
-use Rattle.fields.specs.declared.Number.the-variants.{Value, Bad}
-use Rattle.fields.specs.Decimals.{digits, numberAt}
+use Rattle.words.specs.Said.{refused}
+use Rattle.words.specs.Said.Said.{gives}
+use Rattle.decimals.specs.declared.Number.{Number}
+use Rattle.decimals.specs.declared.Number.the-variants.{Value, Bad}
+use Rattle.decimals.specs.Decimals.{digits, numberAt}
 use Rattle.fields.specs.Places.{agree, begins, isExactly}
-use Rattle.fields.proofs.Reading.{digits-read, read-digits}
+use Rattle.decimals.proofs.Reading.{digits-read, read-digits}
 use Rattle.fields.proofs.Rooms.{front}
 use Rattle.messages.specs.declared.Status.{Status}
 use Rattle.messages.specs.declared.Status.the-variants.{Alive, Dead}
@@ -28,7 +29,7 @@ use Rattle.lines_rules.specs.Claims.{WrittenIsRead, ReadIsWritten}
 use Rattle.lines_rules.proofs.Lines.{fits-said, fits-room, request-line, grant-line, check-line}
 
 -- a refusal gives nothing
-no-gift : {A B : Type 0} {k : ℕ} {a : A} → refusal k ≡ gives a → B
+no-gift : {A B : Type 0} {k : ℕ} {a : A} → refused k ≡ gives a → B
 no-gift e = let z : _≡_ {A = ℕ} 0 1 = cc in absurd (let w : 0 ≡ 1 = z in omega arith)
 
 gift : {A : Type 0} {a b : A} → gives a ≡ gives b → a ≡ b
@@ -46,7 +47,8 @@ unfolding onlyNumber ended isExactly begins agree
 number-line n allowed greatest b m z =
     rw (digits-read n allowed greatest (10 ∷ []) (omega arith) m z refl, drop-append-seam (digits n) (10 ∷ []))
 
-counter-line : (cnt : ℕ) → ((1 ≤? cnt) && (cnt ≤? topCounter)) ≡ true → onlyNumber false topCounter (digits cnt ++ (10 ∷ [])) ≡ Value cnt (length (digits cnt))
+counter-line : (cnt : ℕ) → ((1 ≤? cnt) && (cnt ≤? topCounter)) ≡ true
+    → onlyNumber false topCounter (digits cnt ++ (10 ∷ [])) ≡ Value cnt (length (digits cnt))
 counter-line cnt h =
     let p = both-hold (1 ≤? cnt) (cnt ≤? topCounter) h in
     let least = leb-true 1 cnt (p .0) in
@@ -92,7 +94,8 @@ record Alone (allowed : Bool) (greatest : ℕ) (s : List ℕ) (n : ℕ) : Type 0
   most : n ≤ greatest
   nonzero : n ≡ 0 → allowed ≡ true
 
-alone : (allowed : Bool) (greatest : ℕ) → greatest < 2 ^ 64 → (s : List ℕ) (n k : ℕ) → onlyNumber allowed greatest s ≡ Value n k → Alone allowed greatest s n
+alone : (allowed : Bool) (greatest : ℕ) → greatest < 2 ^ 64 → (s : List ℕ) (n k : ℕ) → onlyNumber allowed greatest s ≡ Value n k
+    → Alone allowed greatest s n
 unfolding onlyNumber ended
 alone allowed greatest b s n k e = of (numberAt allowed greatest s) refl e
   where
@@ -120,7 +123,8 @@ pub record Formed (s : List ℕ) (m : Message) : Type 0 where
 one-formed : (word : List ℕ) (make : ℕ → Message) (allowed : Bool) (greatest : ℕ) → greatest < 2 ^ 64
     → ((n : ℕ) → lineOf (make n) ≡ word ++ digits n ++ (10 ∷ []))
     → ((n : ℕ) → n ≤ greatest → (n ≡ 0 → allowed ≡ true) → hasForm (make n) ≡ true)
-    → (s : List ℕ) (m : Message) → begins word s ≡ true → oneOf make (onlyNumber allowed greatest (drop (length word) s)) ≡ gives m → Formed s m
+    → (s : List ℕ) (m : Message) → begins word s ≡ true
+    → oneOf make (onlyNumber allowed greatest (drop (length word) s)) ≡ gives m → Formed s m
 one-formed word make allowed greatest b lines forms s m w e = of (onlyNumber allowed greatest (drop (length word) s)) refl e
   where
     of : (x : Number) → onlyNumber allowed greatest (drop (length word) s) ≡ x → oneOf make x ≡ gives m → Formed s m
@@ -152,7 +156,7 @@ ack-status ts cnt s m r c e =
     told status q same = rw (← same, q, le-leb ts topReading r, le-leb cnt topCounter c) (refl, refl)
 
     by : (a : Bool) → isExactly (text "\tAlive\n") s ≡ a → (d : Bool) → isExactly (text "\tDead\n") s ≡ d
-        → (if a then gives (CheckAck ts cnt Alive) else if d then gives (CheckAck ts cnt Dead) else refusal 9) ≡ gives m
+        → (if a then gives (CheckAck ts cnt Alive) else if d then gives (CheckAck ts cnt Dead) else refused 9) ≡ gives m
         → (hasForm m ≡ true) × (text "CHECK-ACK\t" ++ (digits ts ++ (9 ∷ (digits cnt ++ s))) ≡ lineOf m)
     by true p d q e = told Alive (exactly (text "\tAlive\n") s p) (gift e)
     by false p true q e = told Dead (exactly (text "\tDead\n") s q) (gift e)
@@ -171,7 +175,8 @@ ack-counter ts s m r e = by (begins (text "\t") s) refl e
         (a .0, ap (λ (l : List ℕ). text "CHECK-ACK\t" ++ (digits ts ++ l)) (t ∙ ap (λ (l : List ℕ). 9 ∷ l) (n .front)) ∙ a .1)
     of t (Bad place) q e = no-gift e
 
-    by : (t : Bool) → begins (text "\t") s ≡ t → (if t then statusBehind ts (drop 1 s) (numberAt true topCounter (drop 1 s)) else refusal 9) ≡ gives m
+    by : (t : Bool) → begins (text "\t") s ≡ t
+        → (if t then statusBehind ts (drop 1 s) (numberAt true topCounter (drop 1 s)) else refused 9) ≡ gives m
         → (hasForm m ≡ true) × (text "CHECK-ACK\t" ++ (digits ts ++ s) ≡ lineOf m)
     by true t e = of (front (text "\t") s t) (numberAt true topCounter (drop 1 s)) refl e
     by false t e = no-gift e
@@ -193,20 +198,25 @@ ack-formed s m w e = of (numberAt true topReading (drop 10 s)) refl e
 pub read-formed : (s : List ℕ) (m : Message) → readLine s ≡ gives m → Formed s m
 unfolding readLine hasForm
 read-formed s m e =
-    by (begins (text "LEASE-REQUEST\t") s) refl (begins (text "LEASE-GRANT\t") s) refl (begins (text "CHECK\t") s) refl (begins (text "CHECK-ACK\t") s) refl e
+    by (begins (text "LEASE-REQUEST\t") s) refl (begins (text "LEASE-GRANT\t") s) refl (begins (text "CHECK\t") s) refl
+    (begins (text "CHECK-ACK\t") s) refl e
   where
-    by : (r : Bool) → begins (text "LEASE-REQUEST\t") s ≡ r → (g : Bool) → begins (text "LEASE-GRANT\t") s ≡ g → (c : Bool) → begins (text "CHECK\t") s ≡ c
+    by : (r : Bool) → begins (text "LEASE-REQUEST\t") s ≡ r → (g : Bool) → begins (text "LEASE-GRANT\t") s ≡ g → (c : Bool)
+        → begins (text "CHECK\t") s ≡ c
         → (a : Bool) → begins (text "CHECK-ACK\t") s ≡ a
         → (if r then oneOf LeaseRequest (onlyNumber false topCounter (drop 14 s))
         else if g then oneOf LeaseGrant (onlyNumber false topCounter (drop 12 s))
         else if c then oneOf Check (onlyNumber true topReading (drop 6 s))
         else if a then readAck (drop 10 s)
-        else refusal 9)
+        else refused 9)
         ≡ gives m
         → Formed s m
-    by true p g q c u a v e = one-formed (text "LEASE-REQUEST\t") LeaseRequest false topCounter (omega arith) request-line counter-forms s m p e
-    by false p true q c u a v e = one-formed (text "LEASE-GRANT\t") LeaseGrant false topCounter (omega arith) grant-line counter-forms s m q e
-    by false p false q true u a v e = one-formed (text "CHECK\t") Check true topReading (omega arith) check-line (λ n h z. le-leb n topReading h) s m u e
+    by true p g q c u a v e =
+        one-formed (text "LEASE-REQUEST\t") LeaseRequest false topCounter (omega arith) request-line counter-forms s m p e
+    by false p true q c u a v e =
+        one-formed (text "LEASE-GRANT\t") LeaseGrant false topCounter (omega arith) grant-line counter-forms s m q e
+    by false p false q true u a v e =
+        one-formed (text "CHECK\t") Check true topReading (omega arith) check-line (λ n h z. le-leb n topReading h) s m u e
     by false p false q false u true v e = ack-formed s m v e
     by false p false q false u false v e = no-gift e
 
@@ -219,7 +229,7 @@ unfolding writeSaid writeRoom fitting filled
 written m room k e = by (hasForm m) refl (length room <? length (lineOf m)) refl e
   where
     by : (f : Bool) → hasForm m ≡ f → (t : Bool) → (length room <? length (lineOf m)) ≡ t
-        → (if not f then refusal 9 else if t then refusal 10 else gives (length (lineOf m))) ≡ gives k
+        → (if not f then refused 9 else if t then refused 10 else gives (length (lineOf m))) ≡ gives k
         → (hasForm m ≡ true) × (k ≡ length (lineOf m)) × (writeRoom m room ≡ lineOf m ++ drop (length (lineOf m)) room)
     by true f true t e = no-gift e
     by true f false t e = (f, sym (gift e), rw (f, t))

@@ -1,12 +1,13 @@
 -- Reading and writing undo one another, and 44 bytes are enough and needed.
-use Prim.Native.Nat.{ℕ, _≤_}
+use Prim.Native.Nat.{ℕ, _≤_, _<_}
 use mathlib.Core.List.{List, _++_}
 use mathlib.Core.Path.{_≡_}
 use lib.ListN.{length, take, drop}
-use Rattle.words.specs.Said.Said.{refusal, gives}
+use Rattle.words.specs.Said.{refused}
+use Rattle.words.specs.Said.Said.{gives}
 use Rattle.messages.specs.declared.Message.{Message}
 use Rattle.lines_rules.specs.Reading.{readLine}
-use Rattle.lines_rules.specs.Writing.{writeSaid, writeRoom}
+use Rattle.lines_rules.specs.Writing.{longestLine, writeSaid, writeRoom}
 
 -- Whatever the room, the bytes of a line that was written are read as its message.
 abbrev pub WrittenIsRead : Type 0
@@ -19,13 +20,13 @@ ReadIsWritten =
     (s : List ℕ) (m : Message) → readLine s ≡ gives m → (room : List ℕ) → length s ≤ length room
     → (writeSaid m room ≡ gives (length s)) × (writeRoom m room ≡ s ++ drop (length s) room)
 
--- In 44 bytes of room no message gets 10.
-abbrev pub FortyFourAreEnough : Type 0
-FortyFourAreEnough = (m : Message) (room : List ℕ) → 44 ≤ length room → writeSaid m room ≡ refusal 10 → ⊥
+-- In room for the longest line no message gets 10.
+abbrev pub LongestLineIsEnough : Type 0
+LongestLineIsEnough = (m : Message) (room : List ℕ) → longestLine ≤ length room → writeSaid m room ≡ refused 10 → ⊥
 
--- In less, one does, and in 44 it is written whole.
-abbrev pub FortyFourAreNeeded : Type 0
-FortyFourAreNeeded =
+-- In less, one does, and in so much it is written whole.
+abbrev pub LongestLineIsNeeded : Type 0
+LongestLineIsNeeded =
     (m : Message)
-    × ((room : List ℕ) → length room ≤ 43 → writeSaid m room ≡ refusal 10)
-    × ((room : List ℕ) → 44 ≤ length room → writeSaid m room ≡ gives 44)
+    × ((room : List ℕ) → length room < longestLine → writeSaid m room ≡ refused 10)
+    × ((room : List ℕ) → longestLine ≤ length room → writeSaid m room ≡ gives longestLine)

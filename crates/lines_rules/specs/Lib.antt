@@ -1,4 +1,4 @@
--- Document 01, "Message lines".
+-- Rules 6: message lines.
 pub mod Reading
 pub mod Writing
 pub mod Claims

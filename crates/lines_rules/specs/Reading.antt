@@ -1,4 +1,4 @@
--- Reading a message line. "Each field is read where it begins in the line": a field's reader gets what the line holds from
+-- Reading a message line (rule 6.5). A field's reader gets what the line holds from
 -- there on.
 use Prim.Native.Nat.{ℕ}
 use mathlib.Core.Bool.{Bool, true, false}
@@ -6,11 +6,11 @@ use mathlib.Core.List.{List}
 use lib.ListN.{drop}
 use Rattle.words.specs.Tests.{if_then_else_}
 use Rattle.words.specs.Lists.{text}
-use Rattle.words.specs.Said.{Said}
-use Rattle.words.specs.Said.Said.{refusal, gives}
-use Rattle.fields.specs.declared.Number.{Number}
-use Rattle.fields.specs.declared.Number.the-variants.{Value, Bad}
-use Rattle.fields.specs.Decimals.{numberAt}
+use Rattle.words.specs.Said.{Said, refused}
+use Rattle.words.specs.Said.Said.{gives}
+use Rattle.decimals.specs.declared.Number.{Number}
+use Rattle.decimals.specs.declared.Number.the-variants.{Value, Bad}
+use Rattle.decimals.specs.Decimals.{numberAt}
 use Rattle.fields.specs.Places.{begins, isExactly}
 use Rattle.messages.specs.declared.Status.the-variants.{Alive, Dead}
 use Rattle.messages.specs.declared.Message.{Message}
@@ -28,28 +28,28 @@ onlyNumber allowed greatest s = ended s (numberAt allowed greatest s)
 -- the message that is made of that number, or 9
 abbrev pub oneOf : (ℕ → Message) → Number → Said Message
 oneOf make (Value value count) = gives (make value)
-oneOf make (Bad place) = refusal 9
+oneOf make (Bad place) = refused 9
 
 -- `CHECK-ACK ts cnt Alive` (or `Dead`), from the status' tab on
 unfoldable pub readAckStatus : (ts cnt : ℕ) → List ℕ → Said Message
 readAckStatus ts cnt s =
     if isExactly (text "\tAlive\n") s then gives (CheckAck ts cnt Alive)
     else if isExactly (text "\tDead\n") s then gives (CheckAck ts cnt Dead)
-    else refusal 9
+    else refused 9
 
 -- from the counter's tab on
 unfoldable pub statusBehind : (ts : ℕ) → List ℕ → Number → Said Message
 statusBehind ts s (Value cnt count) = readAckStatus ts cnt (drop count s)
-statusBehind ts s (Bad place) = refusal 9
+statusBehind ts s (Bad place) = refused 9
 
 unfoldable pub readAckCounter : (ts : ℕ) → List ℕ → Said Message
 readAckCounter ts s =
-    if begins (text "\t") s then statusBehind ts (drop 1 s) (numberAt true topCounter (drop 1 s)) else refusal 9
+    if begins (text "\t") s then statusBehind ts (drop 1 s) (numberAt true topCounter (drop 1 s)) else refused 9
 
 -- from ts on
 unfoldable pub counterBehind : List ℕ → Number → Said Message
 counterBehind s (Value ts count) = readAckCounter ts (drop count s)
-counterBehind s (Bad place) = refusal 9
+counterBehind s (Bad place) = refused 9
 
 unfoldable pub readAck : List ℕ → Said Message
 readAck s = counterBehind s (numberAt true topReading s)
@@ -61,4 +61,4 @@ readLine s =
     else if begins (text "LEASE-GRANT\t") s then oneOf LeaseGrant (onlyNumber false topCounter (drop 12 s))
     else if begins (text "CHECK\t") s then oneOf Check (onlyNumber true topReading (drop 6 s))
     else if begins (text "CHECK-ACK\t") s then readAck (drop 10 s)
-    else refusal 9
+    else refused 9

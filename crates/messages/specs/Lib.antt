@@ -1,4 +1,4 @@
--- Messages and answers in the words and numbers of document 01.
+-- Messages and answers, in the words and numbers of the rules.
 pub mod Messages
 pub mod Answers
 pub mod Outcomes

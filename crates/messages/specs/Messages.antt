@@ -1,4 +1,4 @@
--- Document 01, "Message lines": what each message holds.
+-- Rules 6.2 and 6.3: what each message holds.
 use Prim.Native.Nat.{ℕ, _-_, _^_}
 use mathlib.Core.Bool.{Bool, _&&_}
 use mathlib.Core.List.{List, [], _∷_}
@@ -9,11 +9,11 @@ use Rattle.messages.specs.declared.Status.the-variants.{Alive, Dead}
 use Rattle.messages.specs.declared.Message.{Message}
 use Rattle.messages.specs.declared.Message.the-variants.{LeaseRequest, LeaseGrant, Check, CheckAck}
 
--- "Counters to 2^40"
+-- the greatest counter
 abbrev pub topCounter : ℕ
 topCounter = 2 ^ 40
 
--- "ts to 2^40 - 1", as every reading
+-- the greatest reading, and the greatest ts
 abbrev pub topReading : ℕ
 topReading = 2 ^ 40 - 1
 
@@ -33,7 +33,7 @@ fieldsOf (LeaseGrant cnt) = word (text "LEASE-GRANT") ∷ number cnt ∷ []
 fieldsOf (Check ts) = word (text "CHECK") ∷ number ts ∷ []
 fieldsOf (CheckAck ts cnt status) = word (text "CHECK-ACK") ∷ number ts ∷ number cnt ∷ statusWord status ∷ []
 
--- "Counters to 2^40, and at least 1 in the first two; ts to 2^40 - 1"
+-- rule 6.3
 unfoldable pub hasForm : Message → Bool
 hasForm (LeaseRequest cnt) = (1 ≤? cnt) && (cnt ≤? topCounter)
 hasForm (LeaseGrant cnt) = (1 ≤? cnt) && (cnt ≤? topCounter)

@@ -15,10 +15,10 @@ infix 15 _leaving_
 abbrev pub _leaving_ : {R : Type 0} → Said Spoken → R → Outcome R
 answer leaving rec = record { answer = answer; rec = rec }
 
--- "A refusal returns its number and the record as it came": the first line of the table that applies, or the step.
+-- rule 2.2: the first line of the table that applies, or the step.
 unfoldable pub unlessRefused : {R : Type 0} → List Refusal → R → Outcome R → Outcome R
 unlessRefused table rec step = if first table =? 0 then step else refuses (first table) leaving rec
 
--- refusal 4: "a reading .. out of range, or a reading below the party's last"
+-- rule 2.4: out of range, or below the last
 abbrev pub badReading : (last r : ℕ) → Bool
 badReading last r = (topReading <? r) || (r <? last)

@@ -1,2 +1,4 @@
--- Document 01, "Observer".
+-- What the observer's step returns, its plan, and its parts.
 pub mod Outcome
+pub mod Plan
+pub mod Parts

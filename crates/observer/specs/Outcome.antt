@@ -1,4 +1,4 @@
--- What a step by value returns, in the words of document 01.
+-- What a step by value returns, in the words of the rules.
 use Rattle.messages.specs.Answers.{said}
 use Rattle.messages.specs.Outcomes.{Outcome, _leaving_}
 use Rattle.observer_rules.specs.declared.Observer.{Observer}

@@ -1,21 +1,23 @@
-// The observer: a small box that grants leases and says what it has seen. Serves rules 4. The steps take the
-// record and return it; each store is a function of its own that alters one field, so that a cut is the first of them. What a
-// step is to do, and what every step keeps, stands in `observer_rules`.
+// The observer: a small box that grants leases and says what it has seen. Serves rules 4. A step first makes its plan, which
+// is all that the rules ask of it; then it does the plan, store by store. The plan is made here for both forms of the step: the
+// one below takes the record and returns it, the one of `observer_lent` alters it in place.
 use messages::Answer;
 use messages::Message;
 use messages::Status;
+use messages::Word;
+use messages::bad_reading;
 use observer_rules::Observer;
+use observer_rules::ObserverEvent;
 use settings::Settings;
 ghost use mathlib.Core.Path.{_≡_};
-ghost use Prim.Native.Nat.{_≤_};
 ghost use lib.ListN.{take};
 ghost use Rattle.words.specs.Said.{first};
-ghost use Rattle.settings.specs.Settings.{InRange};
-ghost use Rattle.messages.specs.Messages.{topReading};
-ghost use Rattle.messages.specs.Answers.{refuses};
-ghost use Rattle.messages.specs.Outcomes.{_leaving_};
-ghost use Rattle.observer_rules.specs.Observer.{atReading, hasForm, sharedRefusals, requestRefusals, cutRefusals, checkRefusals, Store, store, storeAll, stores, requestOf, cutOf, statusAt, checkOf, restartOf};
+ghost use Rattle.settings.specs.Parts.{InRange};
+ghost use Rattle.messages.specs.Answers.{said};
+ghost use Rattle.observer_rules.specs.Observer.{atReading, hasForm, sharedRefusals, requestRefusals, cutRefusals, checkRefusals, refusalsOf, Store, store, storeAll, statusAt, answerOf, readingAfter, stepOf, restartOf};
 ghost use Rattle.observer.specs.Outcome.{outcome};
+ghost use Rattle.observer.specs.Plan.{howMany, newLatest, planned, planOf};
+ghost use Rattle.observer.specs.Parts.{inOrder};
 
 // What a step returns: its answer, and the record after it.
 pub struct Stepped {
@@ -23,7 +25,20 @@ pub struct Stepped {
     pub rec: Observer,
 }
 
-// Does the record have the form? The settings are in range, so the greatest deadline does not wrap.
+// What a step is to do. A refusal does nothing of what follows it.
+pub struct Plan {
+    pub answer: Answer,
+    pub refused: bool,
+    // how many of the two stores are done, and what they store: the deadline, then latest
+    pub stores: u64,
+    pub deadline: u64,
+    pub latest: u64,
+    pub last_reading: u64,
+}
+
+// ---- Refusals
+
+// Does the record have the form (rule 4.2)? The settings are in range, so the greatest deadline does not wrap.
 fn has_form(s: Settings, o: Observer) -> bool
     requires { ⌜ InRange s ⌝ }
     ensures { λ r. ⌜ r ≡ hasForm s o ⌝ }
@@ -60,8 +75,7 @@ fn shared_refusal(s: Settings, o: Observer, x: u64, bad: bool) -> u32
 fn request_refusal(s: Settings, o: Observer, x: u64, reading: u64, counter: u64) -> u32
     ensures { λ r. ⌜ r ≡ first (requestRefusals s o x reading counter) ⌝ }
 {
-    let bad = (messages::TOP_READING < reading) | (reading < o.last_reading);
-    let number = shared_refusal(s, o, x, bad);
+    let number = shared_refusal(s, o, x, bad_reading(o.last_reading, reading));
     if number != 0 {
         return number;
     }
@@ -87,19 +101,112 @@ fn cut_refusal(s: Settings, o: Observer, x: u64, reading: u64, counter: u64, sto
 fn check_refusal(s: Settings, o: Observer, x: u64, reading: u64, ts: u64) -> u32
     ensures { λ r. ⌜ r ≡ first (checkRefusals s o x reading ts) ⌝ }
 {
-    let bad = (messages::TOP_READING < reading) | (reading < o.last_reading);
-    shared_refusal(s, o, x, bad | (messages::TOP_READING < ts))
+    let bad = bad_reading(o.last_reading, reading) | (messages::TOP_READING < ts);
+    shared_refusal(s, o, x, bad)
 }
 
-// A refusal leaves the record as it came.
-fn refused(number: u32, o: Observer) -> Stepped
-    ensures { λ r. ⌜ outcome r ≡ (refuses number leaving o) ⌝ }
+fn refusal_of(s: Settings, o: Observer, x: u64, reading: u64, event: ObserverEvent) -> u32
+    ensures { λ r. ⌜ r ≡ first (refusalsOf s o x reading event) ⌝ }
 {
-    Stepped {
-        answer: Answer::Refused(number),
-        rec: o,
+    match event {
+        ObserverEvent::Request(counter) => request_refusal(s, o, x, reading, counter),
+        ObserverEvent::Cut(counter, stores) => cut_refusal(s, o, x, reading, counter, stores),
+        ObserverEvent::Check(ts) => check_refusal(s, o, x, reading, ts),
     }
 }
+
+// ---- What an accepted step is to do
+
+// Dead from the deadline on (rule 4.7).
+fn status_at(o: Observer, reading: u64) -> Status
+    ensures { λ r. ⌜ r ≡ statusAt o reading ⌝ }
+{
+    if reading < o.deadline {
+        Status::Alive
+    } else {
+        Status::Dead
+    }
+}
+
+// A request is granted, or met with silence; a cut sends nothing; a check is told what the observer has seen.
+fn answer_of(o: Observer, reading: u64, event: ObserverEvent) -> Answer
+    ensures { λ r. ⌜ said r ≡ answerOf o reading event ⌝ }
+{
+    match event {
+        ObserverEvent::Request(counter) => {
+            if o.latest < counter {
+                Answer::Send(Message::LeaseGrant(counter))
+            } else {
+                Answer::Say(Word::Silent)
+            }
+        }
+        ObserverEvent::Cut(_, _) => Answer::Say(Word::Cut),
+        ObserverEvent::Check(ts) => {
+            let status = status_at(o, reading);
+            Answer::Send(Message::CheckAck(ts, o.latest, status))
+        }
+    }
+}
+
+// Of a request that would be silent there is nothing to store, and so nothing to cut (rules 4.4, 4.6).
+fn how_many(o: Observer, event: ObserverEvent) -> u64
+    ensures { λ r. ⌜ r ≡ howMany o event ⌝ }
+{
+    match event {
+        ObserverEvent::Request(counter) => { if o.latest < counter { 2 } else { 0 } }
+        ObserverEvent::Cut(counter, stores) => { if o.latest < counter { stores } else { 0 } }
+        ObserverEvent::Check(_) => 0,
+    }
+}
+
+fn new_latest(event: ObserverEvent) -> u64
+    ensures { λ r. ⌜ r ≡ newLatest event ⌝ }
+{
+    match event {
+        ObserverEvent::Request(counter) => counter,
+        ObserverEvent::Cut(counter, _) => counter,
+        ObserverEvent::Check(_) => 0,
+    }
+}
+
+// A box that was cut has lost its memory (rule 4.6).
+fn reading_after(reading: u64, event: ObserverEvent) -> u64
+    ensures { λ r. ⌜ r ≡ readingAfter reading event ⌝ }
+{
+    match event {
+        ObserverEvent::Request(_) => reading,
+        ObserverEvent::Cut(_, _) => 0,
+        ObserverEvent::Check(_) => reading,
+    }
+}
+
+// The plan of a step. Where it is not refused, settings and reading are in range, so the new deadline does not wrap.
+pub fn plan_of(s: Settings, o: Observer, x: u64, reading: u64, event: ObserverEvent) -> Plan
+    ensures { λ r. ⌜ planned r ≡ planOf s o x reading event ⌝ }
+{
+    let number = refusal_of(s, o, x, reading, event);
+    if number != 0 {
+        return Plan {
+            answer: Answer::Refused(number),
+            refused: true,
+            stores: 0,
+            deadline: 0,
+            latest: 0,
+            last_reading: 0,
+        };
+    }
+    let answer = answer_of(o, reading, event);
+    Plan {
+        answer,
+        refused: false,
+        stores: how_many(o, event),
+        deadline: reading + s.observer_lease,
+        latest: new_latest(event),
+        last_reading: reading_after(reading, event),
+    }
+}
+
+// ---- Stores
 
 fn store_deadline(o: Observer, deadline: u64) -> Observer
     ensures { λ r. ⌜ r ≡ store (Store.deadline deadline) o ⌝ }
@@ -125,96 +232,39 @@ fn set_last_reading(o: Observer, reading: u64) -> Observer
     next
 }
 
-// The first stores of a request, as many as are told, in their order: the deadline, then latest. A request that would be
-// silent has none.
-fn store_first(s: Settings, o: Observer, reading: u64, counter: u64, count: u64) -> Observer
-    requires { ⌜ InRange s × (reading ≤ topReading) ⌝ }
-    ensures { λ r. ⌜ r ≡ storeAll (take count (stores s o reading counter)) o ⌝ }
+// The first stores, as many as are told: the deadline, then latest. The cut falls between them.
+fn store_first(o: Observer, count: u64, deadline: u64, latest: u64) -> Observer
+    ensures { λ r. ⌜ r ≡ storeAll (take count (inOrder deadline latest)) o ⌝ }
 {
-    if counter <= o.latest {
-        return o;
-    }
     if count == 0 {
         return o;
     }
-    let deadline = reading + s.observer_lease;
     let under_way = store_deadline(o, deadline);
     if count == 1 {
         return under_way;
     }
-    store_latest(under_way, counter)
+    store_latest(under_way, latest)
 }
 
-// A request c. It is granted once both stores are done; a counter that is not above latest is met with silence.
-pub fn request(s: Settings, o: Observer, x: u64, reading: u64, counter: u64) -> Stepped
-    ensures { λ r. ⌜ outcome r ≡ requestOf s o x reading counter ⌝ }
-{
-    let number = request_refusal(s, o, x, reading, counter);
-    if number != 0 {
-        return refused(number, o);
-    }
-    let rec = set_last_reading(store_first(s, o, reading, counter, 2), reading);
-    if o.latest < counter {
-        Stepped {
-            answer: Answer::Send(Message::LeaseGrant(counter)),
-            rec,
-        }
-    } else {
-        Stepped {
-            answer: Answer::Silent,
-            rec,
-        }
-    }
-}
+// ---- Steps
 
-// A request that is cut after so many stores. Nothing is sent, and what is in memory is lost.
-pub fn cut_request(
-    s: Settings,
-    o: Observer,
-    x: u64,
-    reading: u64,
-    counter: u64,
-    stores: u64,
-) -> Stepped
-    ensures { λ r. ⌜ outcome r ≡ cutOf s o x reading counter stores ⌝ }
+// The plan is made and done: the stores, then the last reading. A refusal leaves the record as it came (rule 2.2).
+pub fn step(s: Settings, o: Observer, x: u64, reading: u64, event: ObserverEvent) -> Stepped
+    ensures { λ r. ⌜ outcome r ≡ stepOf s o x reading event ⌝ }
 {
-    let number = cut_refusal(s, o, x, reading, counter, stores);
-    if number != 0 {
-        return refused(number, o);
+    let plan = plan_of(s, o, x, reading, event);
+    let answer = plan.answer;
+    if plan.refused {
+        return Stepped { answer, rec: o };
     }
+    let stored = store_first(o, plan.stores, plan.deadline, plan.latest);
     Stepped {
-        answer: Answer::Cut,
-        rec: set_last_reading(store_first(s, o, reading, counter, stores), 0),
+        answer,
+        rec: set_last_reading(stored, plan.last_reading),
     }
 }
 
-// Dead from the deadline on.
-fn status_at(o: Observer, reading: u64) -> Status
-    ensures { λ r. ⌜ r ≡ statusAt o reading ⌝ }
-{
-    if reading < o.deadline {
-        Status::Alive
-    } else {
-        Status::Dead
-    }
-}
-
-// A check of the round ts: the observer says what it has seen, and whether that lease has run out.
-pub fn check(s: Settings, o: Observer, x: u64, reading: u64, ts: u64) -> Stepped
-    ensures { λ r. ⌜ outcome r ≡ checkOf s o x reading ts ⌝ }
-{
-    let number = check_refusal(s, o, x, reading, ts);
-    if number != 0 {
-        return refused(number, o);
-    }
-    let status = status_at(o, reading);
-    Stepped {
-        answer: Answer::Send(Message::CheckAck(ts, o.latest, status)),
-        rec: set_last_reading(o, reading),
-    }
-}
-
-// A restart keeps what is stored and forgets the last reading.
+// A restart keeps what is stored and forgets the last reading (rule 4.8).
 pub fn restart(o: Observer) -> Observer
     ensures { λ r. ⌜ r ≡ restartOf o ⌝ }
 {

@@ -1,3 +1,4 @@
 -- What the walks of the lent layer share.
 mod Record
-mod Keeping
+mod Lent
+mod Setter

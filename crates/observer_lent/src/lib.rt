@@ -1,16 +1,18 @@
-// The observer's steps over a record that is lent: a thin layer above the steps by value. Serves document 01, "Observer":
-// "An observer's record is lent to the step and altered there, field by field, deadline first". Each store is a function that
-// alters one field of the lent record.
+// The observer's step over a record that is lent: it is altered in place, one field at a time. Serves rules 4.4 to 4.7, with
+// rule 2.2 for a refusal. What is to be done is the plan of `observer`, the same that the step by value does; here every store
+// is a write of its own into the lent record, so that a cut falls between two of them.
 use messages::Answer;
 use observer::Stepped;
 use observer_rules::Observer;
+use observer_rules::ObserverEvent;
 use settings::Settings;
 ghost use mathlib.Core.Path.{_≡_};
-ghost use Rattle.messages.specs.Answers.{said, isRefusal};
+ghost use lib.ListN.{take};
+ghost use Rattle.messages.specs.Answers.{said};
 ghost use Rattle.messages.specs.Outcomes.{_leaving_};
-ghost use Rattle.observer_rules.specs.Observer.{Store, store, atReading, requestOf, cutOf, checkOf};
+ghost use Rattle.observer_rules.specs.Observer.{Store, store, storeAll, atReading, stepOf};
 ghost use Rattle.observer.specs.Outcome.{outcome};
-ghost use Rattle.observer_lent.specs.Left.{left};
+ghost use Rattle.observer.specs.Parts.{inOrder};
 
 fn store_deadline(o: &mut Observer, deadline: u64)
     ensures { λ _. ⌜ now (o .exit) ≡ store (Store.deadline deadline) (now (o .entry)) ⌝ }
@@ -30,86 +32,45 @@ fn set_last_reading(o: &mut Observer, reading: u64)
     o.last_reading = reading;
 }
 
-fn is_refusal(answer: Answer) -> bool
-    ensures { λ r. ⌜ r ≡ isRefusal (said answer) ⌝ }
+// The first stores, as many as are told: the deadline, then latest. Whatever the count, the record is what the first so many
+// leave: a cut returns between the two.
+fn store_first(o: &mut Observer, count: u64, deadline: u64, latest: u64)
+    ensures { λ _. ⌜ now (o .exit) ≡ storeAll (take count (inOrder deadline latest)) (now (o .entry)) ⌝ }
 {
-    match answer {
-        Answer::Refused(_) => true,
-        _ => false,
+    if count == 0 {
+        return;
     }
-}
-
-// What a step left is stored in the lent record, a field at a time, in the order of 01: the deadline, then latest. A refusal
-// writes nothing.
-fn leave(o: &mut Observer, done: Stepped) -> Answer
-    ensures { λ a. ⌜ (a ≡ done .answer) × (now (o .exit) ≡ left (now (o .entry)) done) ⌝ }
-{
-    let answer = done.answer;
-    if is_refusal(answer) {
-        return answer;
+    store_deadline(&mut *o, deadline);
+    if count == 1 {
+        return;
     }
-    store_deadline(&mut *o, done.rec.deadline);
-    store_latest(&mut *o, done.rec.latest);
-    set_last_reading(&mut *o, done.rec.last_reading);
-    answer
+    store_latest(&mut *o, latest);
 }
 
-pub fn request_lent(o: &mut Observer, s: Settings, x: u64, reading: u64, counter: u64) -> Answer
-    ensures { λ a. ⌜ (said a leaving now (o .exit)) ≡ requestOf s (now (o .entry)) x reading counter ⌝ }
-{
-    let done = observer::request(s, *o, x, reading, counter);
-    leave(&mut *o, done)
-}
-
-pub fn cut_lent(
+// The plan is made and done: the stores, then the last reading. A refusal writes nothing.
+pub fn step_lent(
     o: &mut Observer,
     s: Settings,
     x: u64,
     reading: u64,
-    counter: u64,
-    stores: u64,
+    event: ObserverEvent,
 ) -> Answer
-    ensures { λ a. ⌜ (said a leaving now (o .exit)) ≡ cutOf s (now (o .entry)) x reading counter stores ⌝ }
+    ensures { λ a. ⌜ (said a leaving now (o .exit)) ≡ stepOf s (now (o .entry)) x reading event ⌝ }
 {
-    let done = observer::cut_request(s, *o, x, reading, counter, stores);
-    leave(&mut *o, done)
-}
-
-pub fn check_lent(o: &mut Observer, s: Settings, x: u64, reading: u64, ts: u64) -> Answer
-    ensures { λ a. ⌜ (said a leaving now (o .exit)) ≡ checkOf s (now (o .entry)) x reading ts ⌝ }
-{
-    let done = observer::check(s, *o, x, reading, ts);
-    leave(&mut *o, done)
+    let plan = observer::plan_of(s, *o, x, reading, event);
+    if plan.refused {
+        return plan.answer;
+    }
+    store_first(&mut *o, plan.stores, plan.deadline, plan.latest);
+    set_last_reading(&mut *o, plan.last_reading);
+    plan.answer
 }
 
 // For a caller that has the record by value: it is lent to the step, and comes back beside the answer.
-pub fn lend_to_request(s: Settings, o: Observer, x: u64, reading: u64, counter: u64) -> Stepped
-    ensures { λ r. ⌜ outcome r ≡ requestOf s o x reading counter ⌝ }
+pub fn lend_to_step(s: Settings, o: Observer, x: u64, reading: u64, event: ObserverEvent) -> Stepped
+    ensures { λ r. ⌜ outcome r ≡ stepOf s o x reading event ⌝ }
 {
     let mut own = o;
-    let answer = request_lent(&mut own, s, x, reading, counter);
-    Stepped { answer, rec: own }
-}
-
-pub fn lend_to_cut(
-    s: Settings,
-    o: Observer,
-    x: u64,
-    reading: u64,
-    counter: u64,
-    stores: u64,
-) -> Stepped
-    ensures { λ r. ⌜ outcome r ≡ cutOf s o x reading counter stores ⌝ }
-{
-    let mut own = o;
-    let answer = cut_lent(&mut own, s, x, reading, counter, stores);
-    Stepped { answer, rec: own }
-}
-
-pub fn lend_to_check(s: Settings, o: Observer, x: u64, reading: u64, ts: u64) -> Stepped
-    ensures { λ r. ⌜ outcome r ≡ checkOf s o x reading ts ⌝ }
-{
-    let mut own = o;
-    let answer = check_lent(&mut own, s, x, reading, ts);
+    let answer = step_lent(&mut own, s, x, reading, event);
     Stepped { answer, rec: own }
 }

@@ -2,15 +2,16 @@
 use Prim.Native.Nat.{ℕ, zero, suc, _+_, _≤_, _<_}
 use native.Mathlib.Omega.{arith}
 use mathlib.Core.Path.{_≡_, refl, sym}
-use mathlib.Core.Bool.{Bool, true, false, _||_}
+use mathlib.Core.Bool.{Bool, true, false, _||_, not}
 use mathlib.Core.List.{[], _∷_}
 use lib.ListN.{take, getD}
 use lib.Seq.{take-nil, take-all}
-use borrow.Author.Tests.{ltb-true, ltb-false, le-leb, le-ltb, ne-eqb}
+use borrow.Author.Tests.{ltb-true, ltb-false, leb-true, le-leb, le-ltb, ne-eqb}
 use Rattle.words.specs.Tests.{if_then_else_, _<?_, _=?_}
 use Rattle.words.specs.Lists.{every}
 use Rattle.words.specs.Said.{first}
 use Rattle.words.proofs.Booleans.{neither-holds}
+use Rattle.words.proofs.Conditions.{every-anywhere}
 use Rattle.words.proofs.Said.{none-applies}
 use Rattle.settings.specs.declared.Settings.{Settings}
 use Rattle.settings.specs.Settings.{O, refusalOf}
@@ -20,12 +21,13 @@ use Rattle.messages.specs.declared.Message.the-variants.{LeaseGrant}
 use Rattle.messages.specs.Messages.{topCounter, topReading}
 use Rattle.messages.specs.Answers.{refuses, sends, says}
 use Rattle.messages.specs.Outcomes.{Outcome, _leaving_}
+use Rattle.messages.proofs.Outcomes.{either-way, never-refused-with, refused-is-not-given, word-is-no-message}
 use Rattle.observer_rules.specs.declared.Observer.{Observer}
-use Rattle.observer_rules.specs.Observer.{atReading, form, hasForm, requestRefusals, cutRefusals, checkRefusals, store, storeAll, stores, requestOf, cutOf, statusAt, checkOf, restartOf, Event, stepOf}
+use Rattle.observer_rules.specs.Observer.{atReading, form, hasForm, requestRefusals, cutRefusals, checkRefusals, store, storeAll, stores, storesOf, statusAt, answerOf, refusalsOf, readingAfter, restartOf, stepOf}
+use Rattle.observer_rules.specs.declared.ObserverEvent.{ObserverEvent as Event}
 use Rattle.observer_rules.specs.Observer.Store.{deadline, latest}
-use Rattle.observer_rules.specs.Observer.Event.{request, cut, check}
+use Rattle.observer_rules.specs.declared.ObserverEvent.the-variants.{Request as request, Cut as cut, Check as check}
 use Rattle.observer_rules.specs.Claims.{FormIsKept, LatestNeverFalls, DeadlineFirst, GrantIsStored, DeadFromDeadline}
-use Rattle.observer_rules.proofs.Refusals.{each-holds, refused-is-not-given, word-is-no-message, refused-or-done, never-refused-with}
 
 -- ---- What the stores of a request, all or the first k, do to each field
 
@@ -95,16 +97,17 @@ pub data Leaves (s : Settings) (o : Observer) (r : ℕ) : Observer → Type 0 wh
       → Stored s o r c o′ → Leaves s o r (atReading last o′)
 
 pub leaves : (s : Settings) (o : Observer) (x r : ℕ) (event : Event) → Leaves s o r (stepOf s o x r event .rec)
-unfolding stepOf requestOf cutOf checkOf
-leaves s o x r (request c) =
-    refused-or-done (λ out. Leaves s o r (out .rec)) (requestRefusals s o x r c) o _ (λ _. as-it-came) (λ e.
-    let fine = request-accepted s o x r c e in altered c r (fine .0) (fine .1) (fine .2) (fine .1) (all-stored s o r c))
-leaves s o x r (cut c k) =
-    refused-or-done (λ out. Leaves s o r (out .rec)) (cutRefusals s o x r c k) o _ (λ _. as-it-came) (λ e.
-    let fine = cut-accepted s o x r c k e in altered c 0 (fine .0) (fine .1) (fine .2) (omega arith) (stored s o r c k))
-leaves s o x r (check ts) =
-    refused-or-done (λ out. Leaves s o r (out .rec)) (checkRefusals s o x r ts) o _ (λ _. as-it-came) (λ e.
-    let fine = check-accepted s o x r ts e in altered 0 r (fine .0) (fine .1) (omega arith) (fine .1) unchanged)
+unfolding stepOf storesOf readingAfter storeAll
+leaves s o x r event = either-way (refusalsOf s o x r event) o _ (λ out. Leaves s o r (out .rec)) (λ _. as-it-came) (done event)
+  where
+    done : (event : Event) → first (refusalsOf s o x r event) ≡ 0
+        → Leaves s o r (atReading (readingAfter r event) (storeAll (storesOf s o r event) o))
+    done (request c) e =
+        let fine = request-accepted s o x r c e in altered c r (fine .0) (fine .1) (fine .2) (fine .1) (all-stored s o r c)
+    done (cut c k) e =
+        let fine = cut-accepted s o x r c k e in altered c 0 (fine .0) (fine .1) (fine .2) (omega arith) (stored s o r c k)
+    done (check ts) e =
+        let fine = check-accepted s o x r ts e in altered 0 r (fine .0) (fine .1) (omega arith) (fine .1) unchanged
 
 -- ---- The claims
 
@@ -141,27 +144,33 @@ abbrev IsStored : Settings → (r c : ℕ) → Outcome Observer → Type 0
 IsStored s r c out = out .answer ≡ sends (LeaseGrant c) → (out .rec .latest ≡ c) × (out .rec .deadline ≡ r + O s)
 
 pub grant-is-stored : GrantIsStored
-unfolding stepOf requestOf cutOf checkOf stores storeAll store
-grant-is-stored s o x r (request c′) c =
-    refused-or-done (IsStored s r c) (requestRefusals s o x r c′) o _ (λ _ e. absurd (refused-is-not-given e)) (λ _. by (o .latest <? c′))
+unfolding stepOf answerOf storesOf readingAfter stores storeAll store
+grant-is-stored s o x r event c =
+    either-way (refusalsOf s o x r event) o _ (IsStored s r c) (λ _ e. refused-is-not-given e) (λ _. done event)
   where
-    by : (b : Bool)
+    by : (c′ : ℕ) (b : Bool)
         → IsStored s r c
         ((if b then sends (LeaseGrant c′) else says "silent")
         leaving atReading r (storeAll (if b then deadline (r + O s) ∷ latest c′ ∷ [] else []) o))
-    by true e = (cc, refl)
-    by false e = absurd (word-is-no-message e)
-grant-is-stored s o x r (cut c′ k) c =
-    refused-or-done (IsStored s r c) (cutRefusals s o x r c′ k) o _ (λ _ e. absurd (refused-is-not-given e)) (λ _ e. absurd (word-is-no-message e))
-grant-is-stored s o x r (check ts) c =
-    refused-or-done (IsStored s r c) (checkRefusals s o x r ts) o _ (λ _ e. absurd (refused-is-not-given e)) (λ _ e. let z : _≡_ {A = ℕ} 0 1 = cc in omega arith)
+    by c′ true e = (cc, refl)
+    by c′ false e = word-is-no-message e
+
+    done : (event : Event)
+        → IsStored s r c (answerOf o r event leaving atReading (readingAfter r event) (storeAll (storesOf s o r event) o))
+    done (request c′) e = by c′ (o .latest <? c′) e
+    done (cut c′ k) e = word-is-no-message e
+    done (check ts) e = let z : _≡_ {A = ℕ} 0 1 = cc in omega arith
 
 -- ---- The form
 
 -- each condition of the form
 form-of : (s : Settings) (o : Observer) → hasForm s o ≡ true → (i : ℕ) → getD (form s o) i true ≡ true
 unfolding hasForm
-form-of s o e = each-holds (form s o) e
+form-of s o e = every-anywhere (λ condition. condition) true refl (form s o) e
+
+pub known-counter : (s : Settings) (o : Observer) → hasForm s o ≡ true → o .latest ≤ topCounter
+unfolding form
+known-counter s o e = leb-true _ _ (form-of s o e 0)
 
 -- a last reading in range keeps the form
 at-reading : (s : Settings) (o : Observer) (r : ℕ) → r ≤ topReading → hasForm s o ≡ true → hasForm s (atReading r o) ≡ true
@@ -176,7 +185,9 @@ unfolding hasForm form every store
 with-deadline s o r fine h e =
     let f = form-of s o e in
     let range = accepted-in-range s fine in
-    rw (f 0, ne-eqb (r + O s) 0 (λ z. omega arith), le-leb (O s) (r + O s) (omega arith), le-leb (r + O s) (topReading + O s) (omega arith), f 3)
+    let least = le-leb (O s) (r + O s) (omega arith) in
+    let greatest = le-leb (r + O s) (topReading + O s) (omega arith) in
+    rw (f 0, ne-eqb (r + O s) 0 (λ z. omega arith), least, greatest, f 3)
 
 -- and behind it the new latest
 with-latest : (s : Settings) (o : Observer) (c : ℕ) → (o .deadline ≡ 0 → ⊥) → c ≤ topCounter → hasForm s o ≡ true
@@ -185,7 +196,8 @@ unfolding hasForm form every store
 with-latest s o c nonzero h e =
     let f = form-of s o e in rw (le-leb c topCounter h, f 1, ne-eqb (o .deadline) 0 nonzero, f 3)
 
-form-by-steps : (s : Settings) (o : Observer) (x r : ℕ) (event : Event) → hasForm s o ≡ true → hasForm s (stepOf s o x r event .rec) ≡ true
+form-by-steps : (s : Settings) (o : Observer) (x r : ℕ) (event : Event) → hasForm s o ≡ true
+    → hasForm s (stepOf s o x r event .rec) ≡ true
 unfolding store
 form-by-steps s o x r event e = by (leaves s o x r event)
   where
@@ -198,18 +210,25 @@ form-by-steps s o x r event e = by (leaves s o x r event)
         at-reading s _ last l (with-latest s _ c (λ z. omega arith) k (with-deadline s o r fine h e))
 
 -- and then no step is refused with 3
-no-three : (s : Settings) (o : Observer) (x r : ℕ) (event : Event) → hasForm s o ≡ true → stepOf s o x r event .answer ≡ refuses 3 → ⊥
-unfolding stepOf requestOf cutOf checkOf every
-no-three s o x r (request c) has =
-    never-refused-with 3 (omega arith) (requestRefusals s o x r c) o _ (rw has) (by (o .latest <? c))
+no-three : (s : Settings) (o : Observer) (x r : ℕ) (event : Event) → hasForm s o ≡ true
+    → stepOf s o x r event .answer ≡ refuses 3 → ⊥
+unfolding stepOf answerOf every
+no-three s o x r event has =
+    never-refused-with (refusalsOf s o x r event) o _ 3 (λ z. omega arith) (lines event) (given event)
   where
-    by : (b : Bool) → (if b then sends (LeaseGrant c) else says "silent") ≡ refuses 3 → ⊥
-    by true e = refused-is-not-given (sym e)
-    by false e = refused-is-not-given (sym e)
-no-three s o x r (cut c k) has =
-    never-refused-with 3 (omega arith) (cutRefusals s o x r c k) o _ (rw has) (λ e. refused-is-not-given (sym e))
-no-three s o x r (check ts) has =
-    never-refused-with 3 (omega arith) (checkRefusals s o x r ts) o _ (rw has) (λ e. refused-is-not-given (sym e))
+    lines : (event : Event) → every (λ r. not (r .no =? 3) || not (r .applies)) (refusalsOf s o x r event) ≡ true
+    lines (request c) = rw has
+    lines (cut c k) = rw has
+    lines (check ts) = rw has
+
+    answers : (c : ℕ) (b : Bool) → (if b then sends (LeaseGrant c) else says "silent") ≡ refuses 3 → ⊥
+    answers c true e = refused-is-not-given (sym e)
+    answers c false e = refused-is-not-given (sym e)
+
+    given : (event : Event) → answerOf o r event ≡ refuses 3 → ⊥
+    given (request c) e = answers c (o .latest <? c) e
+    given (cut c k) e = refused-is-not-given (sym e)
+    given (check ts) e = refused-is-not-given (sym e)
 
 pub form-is-kept : FormIsKept
 unfolding hasForm form every restartOf

@@ -1,3 +1,4 @@
 -- Laws of the observer, for the crates above.
-pub mod Refusals
 pub mod Laws
+pub mod Ways
+pub mod Answers

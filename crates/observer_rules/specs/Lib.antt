@@ -1,3 +1,3 @@
--- Document 01, "Observer".
+-- Rules 4: the observer.
 pub mod Observer
 pub mod Claims

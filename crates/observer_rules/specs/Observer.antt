@@ -6,16 +6,18 @@ use mathlib.Core.List.{List, [], _∷_, _++_}
 use lib.ListN.{take}
 use Rattle.words.specs.Tests.{if_then_else_, _<?_, _≤?_, _=?_}
 use Rattle.words.specs.Lists.{every}
-use Rattle.words.specs.Said.{Refusal, _when_}
+use Rattle.words.specs.Said.{Said, Refusal, _when_}
 use Rattle.settings.specs.declared.Settings.{Settings}
 use Rattle.settings.specs.Settings.{n, O, refusals}
 use Rattle.messages.specs.declared.Status.{Status}
 use Rattle.messages.specs.declared.Status.the-variants.{Alive, Dead}
 use Rattle.messages.specs.declared.Message.the-variants.{LeaseGrant, CheckAck}
 use Rattle.messages.specs.Messages.{topCounter, topReading}
-use Rattle.messages.specs.Answers.{sends, says}
+use Rattle.messages.specs.Answers.{Spoken, sends, says}
 use Rattle.messages.specs.Outcomes.{Outcome, _leaving_, unlessRefused, badReading}
 use Rattle.observer_rules.specs.declared.Observer.{Observer}
+use Rattle.observer_rules.specs.declared.ObserverEvent.{ObserverEvent}
+use Rattle.observer_rules.specs.declared.ObserverEvent.the-variants.{Request, Cut, Check}
 
 -- ---- Record
 
@@ -49,11 +51,11 @@ abbrev pub requestRefusals : Settings → Observer → (x r c : ℕ) → List Re
 requestRefusals s o x r c =
     sharedRefusals s o x (badReading (lastReading o) r) ++ (6 when ((c =? 0) || (topCounter <? c)) ∷ [])
 
--- "a step's cut above 2"
+-- and a cut above 2
 abbrev pub cutRefusals : Settings → Observer → (x r c k : ℕ) → List Refusal
 cutRefusals s o x r c k = requestRefusals s o x r c ++ (9 when (2 <? k) ∷ [])
 
--- "a reading or a round's ts out of range"
+-- where 4 covers the ts too
 abbrev pub checkRefusals : Settings → Observer → (x r ts : ℕ) → List Refusal
 checkRefusals s o x r ts = sharedRefusals s o x (badReading (lastReading o) r || (topReading <? ts))
 
@@ -72,49 +74,50 @@ unfoldable pub storeAll : List Store → Observer → Observer
 storeAll [] o = o
 storeAll (first ∷ rest) o = storeAll rest (store first o)
 
--- "Request c > latest: store deadline = r + O, then latest = c"; "a request that would be silent has no stores to do"
+-- rule 4.4: the deadline, then latest; a request that is not above latest has none
 unfoldable pub stores : Settings → Observer → (r c : ℕ) → List Store
 stores s o r c = if o .latest <? c then deadline (r + O s) ∷ latest c ∷ [] else []
 
--- ---- Steps
+-- the stores that an accepted step does, in their order: of a cut request the first k, of a check none
+unfoldable pub storesOf : Settings → Observer → (r : ℕ) → ObserverEvent → List Store
+storesOf s o r (Request c) = stores s o r c
+storesOf s o r (Cut c k) = take k (stores s o r c)
+storesOf s o r (Check ts) = []
 
--- "then answer LEASE-GRANT c. For c ≤ latest: silent, only the last reading changes."
-unfoldable pub requestOf : Settings → Observer → (x r c : ℕ) → Outcome Observer
-requestOf s o x r c =
-    unlessRefused (requestRefusals s o x r c) o
-    ((if o .latest <? c then sends (LeaseGrant c) else says "silent") leaving atReading r (storeAll (stores s o r c) o))
+-- ---- Answers
 
--- "A cut after 0, 1 or 2 stores leaves exactly those stores done and no grant sent; the last reading is 0."
-unfoldable pub cutOf : Settings → Observer → (x r c k : ℕ) → Outcome Observer
-cutOf s o x r c k =
-    unlessRefused (cutRefusals s o x r c k) o
-    (says "cut" leaving atReading 0 (storeAll (take k (stores s o r c)) o))
-
--- "Alive if r < deadline, else Dead"
+-- Alive before the deadline, else Dead
 unfoldable pub statusAt : Observer → (r : ℕ) → Status
 statusAt o r = if r <? o .deadline then Alive else Dead
 
--- "Check ts: CHECK-ACK with ts, latest, and" the status
-unfoldable pub checkOf : Settings → Observer → (x r ts : ℕ) → Outcome Observer
-checkOf s o x r ts =
-    unlessRefused (checkRefusals s o x r ts) o
-    (sends (CheckAck ts (o .latest) (statusAt o r)) leaving atReading r o)
+unfoldable pub answerOf : Observer → (r : ℕ) → ObserverEvent → Said Spoken
+answerOf o r (Request c) = if o .latest <? c then sends (LeaseGrant c) else says "silent"
+answerOf o r (Cut c k) = says "cut"
+answerOf o r (Check ts) = sends (CheckAck ts (o .latest) (statusAt o r))
 
--- "In memory: last reading, 0 after a restart"
+-- ---- Steps
+
+abbrev pub refusalsOf : Settings → Observer → (x r : ℕ) → ObserverEvent → List Refusal
+refusalsOf s o x r (Request c) = requestRefusals s o x r c
+refusalsOf s o x r (Cut c k) = cutRefusals s o x r c k
+refusalsOf s o x r (Check ts) = checkRefusals s o x r ts
+
+-- the last reading that a step leaves: a cut forgets it
+unfoldable pub readingAfter : (r : ℕ) → ObserverEvent → ℕ
+readingAfter r (Request c) = r
+readingAfter r (Cut c k) = 0
+readingAfter r (Check ts) = r
+
+-- the stores, then the last reading
+unfoldable pub stepOf : Settings → Observer → (x r : ℕ) → ObserverEvent → Outcome Observer
+stepOf s o x r event =
+    unlessRefused (refusalsOf s o x r event) o
+    (answerOf o r event leaving atReading (readingAfter r event) (storeAll (storesOf s o r event) o))
+
+-- a restart forgets the last reading, and has no answer
 unfoldable pub restartOf : Observer → Observer
 restartOf o = atReading 0 o
 
--- The steps as one, by their event. A restart has no answer.
-pub data Event : Type 0 where
-  request : (c : ℕ) → Event
-  cut : (c k : ℕ) → Event
-  check : (ts : ℕ) → Event
-
-unfoldable pub stepOf : Settings → Observer → (x r : ℕ) → Event → Outcome Observer
-stepOf s o x r (request c) = requestOf s o x r c
-stepOf s o x r (cut c k) = cutOf s o x r c k
-stepOf s o x r (check ts) = checkOf s o x r ts
-
--- "A run starts with every field of every record 0."
+-- all is 0 at first
 abbrev pub fresh : Observer
 fresh = record { latest = 0; deadline = 0; «last_reading» = 0 }

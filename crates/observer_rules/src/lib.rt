@@ -1,4 +1,4 @@
-// The observer's record and the rules of its steps. Serves document 01, "Observer": specs/Observer.antt says what each step does,
+// The observer's record and the rules of its steps. Serves rules 4: specs/Observer.antt says what each step does,
 // specs/Claims.antt what every step keeps; the code is in `observer`.
 ghost use Rattle.observer_rules.specs.Claims.{FormIsKept, LatestNeverFalls, DeadlineFirst, GrantIsStored, DeadFromDeadline};
 
@@ -8,6 +8,16 @@ pub struct Observer {
     pub deadline: u64,
     // in memory: 0 after a restart
     pub last_reading: u64,
+}
+
+// What an observer is handed: rules 4.5 to 4.7.
+pub enum ObserverEvent {
+    // the counter
+    Request(u64),
+    // the counter, and the number of stores that are done
+    Cut(u64, u64),
+    // the round's ts
+    Check(u64),
 }
 
 // What every step keeps, whatever its event.

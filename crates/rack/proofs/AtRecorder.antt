@@ -2,22 +2,26 @@
 use Prim.Native.Nat.{ℕ, _+_, _-_, _≤_, _<_}
 use native.Mathlib.Omega.{arith}
 use native.Mathlib.Nat.{le-trans, le-refl}
-use mathlib.Core.Path.{_≡_, refl, sym, ap, _∙_}
+use mathlib.Core.Path.{_≡_, refl, sym, _∙_}
 use mathlib.Core.Bool.{Bool, true, false}
-use mathlib.Core.Logic.{_⊎_, inl, ⊎-elim}
+use mathlib.Core.Logic.{inl, ⊎-elim}
 use lib.ListN.{getD}
 use borrow.Author.Tests.{leb-true, eq-eqb, ne-eqb, eqb-true, eqb-false, ltb-true, ltb-false}
 use Rattle.words.specs.Tests.{if_then_else_, _=?_, _<?_}
+use Rattle.words.specs.Said.{Said}
 use Rattle.settings.specs.declared.Settings.{Settings}
 use Rattle.settings.specs.Settings.{P, rounding, refusalOf}
 use Rattle.settings.proofs.Laws.{accepted, accepted-in-range}
 use Rattle.messages.specs.declared.Message.{Message}
-use Rattle.messages.specs.declared.Message.the-variants.{LeaseRequest, LeaseGrant}
-use Rattle.messages.specs.Answers.{sends, says}
+use Rattle.messages.specs.declared.Message.the-variants.{LeaseGrant}
+use Rattle.messages.specs.Answers.{Spoken, says, sent, message}
 use Rattle.messages.specs.Outcomes.{Outcome, _leaving_}
+use Rattle.messages.proofs.Outcomes.{nothing-is-no-message}
 use Rattle.recorder_rules.specs.declared.Recorder.{Recorder}
-use Rattle.recorder_rules.specs.Recorder.{Event, stepOf, lastReading, oldest, granted, halted, standing, registered}
-use Rattle.recorder_rules.specs.Recorder.Event.{grant}
+use Rattle.recorder_rules.specs.Recorder.{stepOf, lastReading, oldest, granted, halted}
+use Rattle.recorder_rules.specs.declared.RecorderEvent.{RecorderEvent as Event}
+use Rattle.recorder_rules.specs.declared.RecorderEvent.the-variants.{Grant as grant}
+use Rattle.recorder_rules.proofs.Answers.{recorder-sends}
 use Rattle.recorder_rules.proofs.Grants.{granted-at}
 use Rattle.recorder_rules.proofs.Keeping.{Good, step-good}
 use Rattle.recorder_rules.proofs.Steps.{Going, Quiet, Asking, leaves, IsOpen, sentAt, sent-young, oldest-after, closed-granted, sent-kept, sent-now, place-after}
@@ -27,10 +31,9 @@ use Rattle.rack.specs.Runs.{State, partyKey, posted, delivered, wasSent}
 use Rattle.rack.specs.Runs.Event.{atRecorder}
 use Rattle.rack.specs.Runs.Party.{recorder, standby, observer}
 use Rattle.rack.proofs.Clocks.{Reads, lower}
-use Rattle.rack.proofs.History.{sent-has, posted-all}
+use Rattle.rack.proofs.History.{posted-all}
 use Rattle.rack.proofs.Ghost.{By, Ghost, Extends, stays, Behind, EndedFact, ack-on, history-on, ended-on, doomed-on}
-use Rattle.rack.proofs.Steps.{no-message, no-refused-message}
-use Rattle.rack.proofs.Invariant.{RecorderPart, Marks, Inv, observer-on, standby-on, by-weaker}
+use Rattle.rack.proofs.Invariant.{RecorderPart, Marks, Inv, behind, recorder-on, observer-on, standby-on, by-weaker}
 
 -- the state after the recorder's step
 abbrev pub afterRecorder : State → (g : ℕ) → Outcome Recorder → State
@@ -52,15 +55,6 @@ at-same f c v k e = rw (eq-eqb k c e)
 at-other : (f : ℕ → ℕ) (c v k : ℕ) → (k ≡ c → ⊥) → at f c v k ≡ f k
 at-other f c v k e = rw (ne-eqb k c e)
 
--- what is not a message, when nothing is sent
-pub standing-mute : (s : Settings) (rec : Recorder) (m : Message) → standing s rec ≡ sends m → ⊥
-unfolding standing
-standing-mute s rec m = by (registered s rec)
-  where
-    by : (b : Bool) → (if b then says "running" else says "unregistered") ≡ sends m → ⊥
-    by true e = no-message e
-    by false e = no-message e
-
 module _ (s : Settings) (ok : refusalOf s ≡ 0) (clocks : Clocks) (L : ℕ) (p : Bool)
     {marks : Marks} {now : ℕ} {top : ℕ → ℕ} {st : State} (inv : Inv s clocks L p marks now top st)
     (g r : ℕ) (top′ : ℕ → ℕ) (later : now ≤ g) (read : Reads s (clocks .recorder) g r) (up : (k : ℕ) → top k ≤ top′ k)
@@ -78,7 +72,7 @@ module _ (s : Settings) (ok : refusalOf s ≡ 0) (clocks : Clocks) (L : ℕ) (p 
   build : (gh′ : Ghost) (out : Outcome Recorder) → Extends gh (rec .counter) now gh′ (out .rec .counter) g
       → ((y j v : ℕ) → By (gh′ .reached) y j v → By (gh .reached) y j v)
       → RecorderPart s clocks L p gh′ g (out .rec) → lastReading (out .rec) ≤ top′ (partyKey recorder)
-      → ((m : Message) → out .answer ≡ sends m → Behind s clocks L p gh′ (out .rec .counter) g recorder m g)
+      → ((m : Message) → sent (out .answer) ≡ message m → Behind s clocks L p gh′ (out .rec .counter) g recorder m g)
       → Inv s clocks L p marks g top′ (afterRecorder st g out)
   build gh′ out ext same mine low news =
       record {
@@ -88,7 +82,8 @@ module _ (s : Settings) (ok : refusalOf s ≡ 0) (clocks : Clocks) (L : ℕ) (p 
         observer-part = λ x. observer-on s clocks L p ext (up _) (same x) (inv .observer-part x);
         standby-part = standby-on s clocks L p ext (up _) (inv .standby-part);
         history-part =
-            posted-all (λ m. Behind s clocks L p gh′ (out .rec .counter) g (m .by) (m .what) (m .time)) recorder g (out .answer) (st .history)
+            posted-all (λ m. Behind s clocks L p gh′ (out .rec .counter) g (m .by) (m .what) (m .time)) recorder g
+            (out .answer) (st .history)
             (history-on s clocks L p ext (inv .history-part)) news;
         early = λ q y j v b. ext .keeps y j L (inv .early q y j v (same y j v b));
         doom = λ t. let d = inv .doom t in (d .0, doomed-on s clocks L p ext (d .1));
@@ -97,21 +92,12 @@ module _ (s : Settings) (ok : refusalOf s ≡ 0) (clocks : Clocks) (L : ℕ) (p 
       }
 
   -- the record as it came
-  unchanged : (out : Outcome Recorder) → out .rec ≡ rec → ((m : Message) → out .answer ≡ sends m → ⊥)
-      → Inv s clocks L p marks g top′ (afterRecorder st g out)
-  unchanged out e mute =
-      build gh out (rw e (stays gh (rec .counter) now g later)) (λ y j v b. b)
-      (rw e
-      (record {
-        good = part .good;
-        h-past = le-trans (part .h-past) later;
-        last = part .last;
-        sent = part .sent;
-        opened = part .opened;
-        ended = part .ended;
-        granted = part .granted;
-      }))
-      (rw e (le-trans (inv .recorder-read) (up _)))
+  unchanged : (answer : Said Spoken) → ((m : Message) → sent answer ≡ message m → ⊥)
+      → Inv s clocks L p marks g top′ (afterRecorder st g (answer leaving rec))
+  unchanged answer mute =
+      build gh (answer leaving rec) (stays gh (rec .counter) now g later) (λ y j v b. b)
+      (recorder-on s clocks L p (stays gh (rec .counter) now g later) refl refl refl part)
+      (le-trans (inv .recorder-read) (up _))
       (λ m q. absurd (mute m q))
 
   -- the same memory, the last step being this one
@@ -119,27 +105,31 @@ module _ (s : Settings) (ok : refusalOf s ≡ 0) (clocks : Clocks) (L : ℕ) (p 
   now-here = record { S = gh .S; σ = gh .σ; h = g; reached = gh .reached }
 
   on-here : Extends gh (rec .counter) now now-here (rec .counter) g
-  on-here = record { same-S = λ c l. refl; counts = le-refl (rec .counter); later = later; keeps = λ y j v b. b; only-now = λ y j v b. inl b }
+  on-here =
+      record {
+        same-S = λ c l. refl;
+        counts = le-refl (rec .counter);
+        later = later;
+        keeps = λ y j v b. b;
+        only-now = λ y j v b. inl b;
+      }
 
-  stopping : (out : Outcome Recorder) → out ≡ (says "stopped" leaving halted rec r) → Good s (out .rec)
-      → Inv s clocks L p marks g top′ (afterRecorder st g out)
-  stopping out e good =
-      build now-here out (rw e on-here) (λ y j v b. b)
-      (rw e
+  stopping : Good s (halted rec r) → Inv s clocks L p marks g top′ (afterRecorder st g (says "stopped" leaving halted rec r))
+  unfolding sent
+  stopping good =
+      build now-here (says "stopped" leaving halted rec r) on-here (λ y j v b. b)
       (record {
-        good = rw e at good;
+        good = good;
         h-past = le-refl g;
         last = λ l. read;
         sent = λ c l k. let d = part .sent c l k in (d .0, le-trans (d .1) (le-trans (part .h-past) later));
         opened = part .opened;
         ended = λ z. absurd (let o : 1 ≡ 0 = z in omega arith);
-        granted = λ y j l k. by-weaker (gh .reached) y j j (gh .h) g (le-refl j) (le-trans (part .h-past) later) (part .granted y j l k);
-      }))
-      (rw e seen)
-      (λ m q. absurd (mute m q))
-    where
-      mute : (m : Message) → out .answer ≡ sends m → ⊥
-      mute m q = no-message (sym (ap (λ (o : Outcome Recorder). o .answer) e) ∙ q)
+        granted = λ y j l k.
+            by-weaker (gh .reached) y j j (gh .h) g (le-refl j) (le-trans (part .h-past) later) (part .granted y j l k);
+      })
+      seen
+      (λ m q. nothing-is-no-message q)
 
   -- ---- a step that goes on to its event
 
@@ -187,8 +177,9 @@ module _ (s : Settings) (ok : refusalOf s ≡ 0) (clocks : Clocks) (L : ℕ) (p 
         new : (i : ℕ) × (event ≡ grant y i) × (getD (next .rec .grants) y 0 ≡ i) → By (gh .reached) y j g
         new d =
             let came : wasSent (st .history) (observer y) (LeaseGrant (d .0)) ≡ true = rw (d .1) at arrived in
-            let m = sent-has (λ m. Behind s clocks L p gh (rec .counter) now (m .by) (m .what) (m .time)) (observer y) (LeaseGrant (d .0)) (st .history) (inv .history-part) came in
-            by-weaker (gh .reached) y (d .0) j (m .0) g (rw (d .2) at k) (le-trans (m .1 .1) later) (m .1 .0)
+            let m = behind s clocks L p inv (observer y) (LeaseGrant (d .0)) came in
+            let f = m .1 y refl in
+            by-weaker (gh .reached) y (d .0) j (m .0) g (rw (d .2) at k) (le-trans (f .1) later) (f .0)
 
     oldest-rises : oldest rec ≤ oldest (next .rec)
     oldest-rises = omega (arith, oldest-after s rec r event (part .good .size) on)
@@ -200,22 +191,25 @@ module _ (s : Settings) (ok : refusalOf s ≡ 0) (clocks : Clocks) (L : ℕ) (p 
           good = good;
           h-past = le-refl g;
           last = λ l. rw (q .reading) read;
-          sent = λ c l k. let d = part .sent c l (rw (q .counter) at k) in (d .0, le-trans (d .1) (le-trans (part .h-past) later));
+          sent = λ c l k.
+              let d = part .sent c l (rw (q .counter) at k) in (d .0, le-trans (d .1) (le-trans (part .h-past) later));
           opened = λ i is-open.
               let k : i ≤ rec .counter = rw (q .counter) at (is-open .1) in
-              sent-kept s rec r event (part .good .size) on i (is-open .0) k ∙ part .opened i (le-trans oldest-rises (is-open .0), k);
+              sent-kept s rec r event (part .good .size) on i (is-open .0) k
+              ∙ part .opened i (le-trans oldest-rises (is-open .0), k);
           ended = λ z c l below. ended-after c l below (known c below);
           granted = granted-after;
         })
         (rw (q .reading) seen)
-        (λ m e. absurd (standing-mute s (next .rec) m (sym (q .answer) ∙ e)))
+        (λ m e. absurd (omega (arith, q .counter, recorder-sends s rec r m event e .1)))
       where
         known : (c : ℕ) → c < oldest (next .rec) → c ≤ rec .counter
         known c below = omega (arith, q .counter, good .form .leases-counter)
 
     -- a request: its time and reading are remembered
     abbrev remembered : Ghost
-    remembered = record { S = at (gh .S) (rec .counter + 1) g; σ = at (gh .σ) (rec .counter + 1) r; h = g; reached = gh .reached }
+    remembered =
+        record { S = at (gh .S) (rec .counter + 1) g; σ = at (gh .σ) (rec .counter + 1) r; h = g; reached = gh .reached }
 
     earlier-S : (c : ℕ) → c ≤ rec .counter → remembered .S c ≡ gh .S c
     earlier-S c k = at-other (gh .S) (rec .counter + 1) g c (λ e. let w : c ≡ rec .counter + 1 = e in omega arith)
@@ -243,12 +237,16 @@ module _ (s : Settings) (ok : refusalOf s ≡ 0) (clocks : Clocks) (L : ℕ) (p 
         news
       where
         known : (c : ℕ) → c < oldest (next .rec) → c ≤ rec .counter
-        known c below = omega (arith, a .counter, good .form .leases-counter, good .form .some-lease (omega (arith, a .counter)))
+        known c below =
+            omega (arith, a .counter, good .form .leases-counter, good .form .some-lease (omega (arith, a .counter)))
 
-        sent-after : (c : ℕ) → 1 ≤ c → c ≤ rec .counter + 1 → Reads s (clocks .recorder) (remembered .S c) (remembered .σ c) × (remembered .S c ≤ g)
+        sent-after : (c : ℕ) → 1 ≤ c → c ≤ rec .counter + 1
+            → Reads s (clocks .recorder) (remembered .S c) (remembered .σ c) × (remembered .S c ≤ g)
         sent-after c l k = by (c =? rec .counter + 1) refl
           where
-            by : (b : Bool) → (c =? rec .counter + 1) ≡ b → Reads s (clocks .recorder) (if b then g else gh .S c) (if b then r else gh .σ c) × ((if b then g else gh .S c) ≤ g)
+            by : (b : Bool) → (c =? rec .counter + 1) ≡ b
+                → Reads s (clocks .recorder) (if b then g else gh .S c) (if b then r else gh .σ c)
+                × ((if b then g else gh .S c) ≤ g)
             by true e = (read, le-refl g)
             by false e =
                 let other = eqb-false c (rec .counter + 1) e in
@@ -265,13 +263,11 @@ module _ (s : Settings) (ok : refusalOf s ≡ 0) (clocks : Clocks) (L : ℕ) (p 
                 let l : i ≤ rec .counter = omega (arith, k, other) in
                 sent-kept s rec r event (part .good .size) on i h l ∙ part .opened i (le-trans oldest-rises h, l)
 
-        news : (m : Message) → next .answer ≡ sends m → Behind s clocks L p remembered (next .rec .counter) g recorder m g
+        news : (m : Message) → sent (next .answer) ≡ message m
+            → Behind s clocks L p remembered (next .rec .counter) g recorder m g
         news m e =
-            let same : LeaseRequest (rec .counter + 1) ≡ m = message-same (sym (a .answer) ∙ e) in
-            rw (← same, a .counter) (omega arith, le-refl (rec .counter + 1), at-same (gh .S) (rec .counter + 1) g (rec .counter + 1) refl, le-refl g)
-          where
-            message-same : {m k : Message} → sends m ≡ sends k → m ≡ k
-            message-same e = cc
+            rw (recorder-sends s rec r m event e .0, a .counter)
+            (λ _. (omega arith, le-refl _, at-same (gh .S) (rec .counter + 1) g (rec .counter + 1) refl, le-refl g))
 
     goes : Inv s clocks L p marks g top′ (afterRecorder st g next)
     goes =
@@ -280,13 +276,16 @@ module _ (s : Settings) (ok : refusalOf s ≡ 0) (clocks : Clocks) (L : ℕ) (p 
 
   pub recorder-kept : (event : Event) → delivered (st .history) (atRecorder g r event) ≡ true
       → Inv s clocks L p marks g top′ (afterRecorder st g (stepOf s rec r event))
+  unfolding sent
   recorder-kept event arrived =
-      each-way s rec r event (λ out. stepOf s rec r event ≡ out → Inv s clocks L p marks g top′ (afterRecorder st g (stepOf s rec r event)))
+      each-way s rec r event (λ out. stepOf s rec r event ≡ out → Inv s clocks L p marks g top′ (afterRecorder st g out))
       (record {
-        refused = λ _ same. unchanged (stepOf s rec r event) (ap (λ (o : Outcome Recorder). o .rec) same) (λ m q. no-refused-message (sym (ap (λ (o : Outcome Recorder). o .answer) same) ∙ q));
-        stopped = λ _ _ same. unchanged (stepOf s rec r event) (ap (λ (o : Outcome Recorder). o .rec) same) (λ m q. no-message (sym (ap (λ (o : Outcome Recorder). o .answer) same) ∙ q));
-        stopping = λ _ _ _ same. stopping (stepOf s rec r event) same (step-good s rec r event (part .good));
+        refused = λ _ _. unchanged _ (λ m q. nothing-is-no-message q);
+        stopped = λ _ _ _. unchanged _ (λ m q. nothing-is-no-message q);
+        stopping = λ _ _ _ same. stopping (rw same at (step-good s rec r event (part .good)));
         going-on = λ passes running not-lacking same.
-            goes event (record { passes = passes; running = running; not-lacking = not-lacking; outcome = same }) arrived;
+            let on : Going s rec r event =
+            record { passes = passes; running = running; not-lacking = not-lacking; outcome = same } in
+            rw same at (goes event on arrived);
       })
       refl

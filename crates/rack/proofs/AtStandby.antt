@@ -1,41 +1,43 @@
--- An event at the standby, and a restart of it, keep the invariant, and when it is told dead the request that it names is doomed. Assumes nothing.
-use Prim.Native.Nat.{ℕ, zero, suc, _+_, _-_, _≤_}
+-- An event at the standby, and a restart of it, keep the invariant, and when it is told dead the request that it names is
+-- doomed. Assumes nothing.
+use Prim.Native.Nat.{ℕ, _+_, _≤_, _<_}
 use native.Mathlib.Omega.{arith}
 use native.Mathlib.Nat.{le-trans, le-refl}
-use mathlib.Core.Path.{_≡_, refl, sym, ap, _∙_}
-use mathlib.Core.Bool.{Bool, true, false}
-use mathlib.Core.List.{List, [], _∷_}
+use mathlib.Core.Path.{_≡_, refl, sym, _∙_}
+use mathlib.Core.Bool.{Bool, true}
+use mathlib.Core.List.{List}
 use mathlib.Core.Logic.{_⊎_, inl, inr, ⊎-elim}
-use lib.ListN.{getD, replicate, List·getD-map}
-use Rattle.words.specs.Tests.{if_then_else_}
+use lib.ListN.{List·getD-map}
 use Rattle.words.specs.Said.{Said}
-use Rattle.words.proofs.Booleans.{not-both}
+use Rattle.words.proofs.Walks.{after-store}
 use Rattle.settings.specs.declared.Settings.{Settings}
 use Rattle.settings.specs.Settings.{n, O, rounding, window, refusalOf}
-use Rattle.settings.specs.Quorums.{closes, _∋_}
+use Rattle.quorums.specs.Quorums.{_∋_}
 use Rattle.settings.proofs.Laws.{accepted-in-range, window-law}
 use Rattle.messages.specs.declared.Status.{Status}
 use Rattle.messages.specs.declared.Message.{Message}
 use Rattle.messages.specs.declared.Message.the-variants.{CheckAck}
-use Rattle.messages.specs.Answers.{Spoken, sends, says, saysOf}
-use Rattle.messages.specs.Outcomes.{Outcome, _leaving_}
+use Rattle.messages.specs.Answers.{Spoken, saysOf, sent, message}
+use Rattle.messages.specs.Outcomes.{Outcome}
 use Rattle.standby_rules.specs.declared.Place.{Place}
 use Rattle.standby_rules.specs.declared.Standby.{Standby}
-use Rattle.standby_rules.specs.Standby.{Event, stepWithin, closed, unused, noPlaces, keptMarks, keeping, afterKeeping, verdict, lastReading, fresh}
-use Rattle.standby_rules.specs.Standby.Event.{ack}
+use Rattle.standby_rules.specs.Standby.{stepWithin, unused, keptMarks, keeping, lastReading, fresh}
+use Rattle.standby_rules.specs.declared.StandbyEvent.{StandbyEvent as Event}
+use Rattle.standby_rules.specs.declared.StandbyEvent.the-variants.{Ack as ack}
 use Rattle.standby_rules.specs.Claims.{Kept}
 use Rattle.standby_rules.proofs.Forms.{form-is-kept}
 use Rattle.standby_rules.proofs.Verdicts.{verdicts-hold}
-use Rattle.standby_rules.proofs.Rounds.{dead-in-window}
+use Rattle.standby_rules.proofs.Rounds.{dead-in-window, none-kept}
+use Rattle.standby_rules.proofs.Ways.{Way, way, standby-sends}
+use Rattle.standby_rules.proofs.Ways.Way.{refusing, beginning, expiring, staying, closing, counting}
 use Rattle.rack.specs.Clocks.{Clocks}
 use Rattle.rack.specs.Runs.{State, partyKey, posted, delivered, wasSent}
 use Rattle.rack.specs.Runs.Event.{atStandby}
 use Rattle.rack.specs.Runs.Party.{recorder, standby, observer}
 use Rattle.rack.proofs.Clocks.{Reads, lower}
-use Rattle.rack.proofs.History.{sent-has, posted-all}
+use Rattle.rack.proofs.History.{posted-all}
 use Rattle.rack.proofs.Ghost.{Ghost, Extends, stays, AckFact, Behind, Doomed, ack-on, history-on, doomed-on}
-use Rattle.rack.proofs.Steps.{StandbyStep, standby-step, standby-sends}
-use Rattle.rack.proofs.Invariant.{Acked, StandbyPart, Marks, Inv, observer-on, recorder-on}
+use Rattle.rack.proofs.Invariant.{Acked, StandbyPart, Marks, Inv, behind, observer-on, recorder-on}
 
 -- the state after the standby's step
 abbrev pub afterStandby : State → (g : ℕ) → Outcome Standby → State
@@ -47,37 +49,19 @@ afterStandby st g out =
       history = posted standby g (out .answer) (st .history);
     }
 
--- nothing is kept in empty places
-pub none-kept : (x : ℕ) → Kept noPlaces x → ⊥
-none-kept x e = not-both e (empty 16 x)
-  where
-    empty : (k x : ℕ) → getD (replicate k unused) x unused .kept ≡ false
-    empty zero zero = refl
-    empty zero (suc x) = refl
-    empty (suc k) zero = refl
-    empty (suc k) (suc x) = empty k x
-
--- a place after a first ack: the ack's, or as it was
-place-of : (places : List Place) (x cnt : ℕ) (status : Status) (y : ℕ)
-    → ((y ≡ x) × (getD (keeping x cnt status places) y unused ≡ record { kept = true; counter = cnt; status = status }))
-    ⊎ (getD (keeping x cnt status places) y unused ≡ getD places y unused)
-place-of [] x cnt status y = inr refl
-place-of (place ∷ places) zero cnt status zero = inl (refl, refl)
-place-of (place ∷ places) zero cnt status (suc y) = inr refl
-place-of (place ∷ places) (suc x) cnt status zero = inr refl
-place-of (place ∷ places) (suc x) cnt status (suc y) = ⊎-elim (λ a. inl (ap suc (a .0), a .1)) inr (place-of places x cnt status y)
-
 -- the marks after an event may say what it shows: that the standby is told dead, or the round that its ack counts in
 pub record ShowsFrom (marks : Marks) (q : Standby) (event : Event) (answer : Said Spoken) (marks′ : Marks) : Type 0 where
   pub dead : marks′ .told ≡ true → (marks .told ≡ true) ⊎ ((m : ℕ) × (answer ≡ saysOf "dead" m))
   pub registered : marks′ .reg ≡ marks .reg
   pub round : ((marks′ .ts ≡ marks .ts) × (marks′ .places ≡ marks .places))
-      ⊎ ((x : ℕ) × (cnt : ℕ) × (status : Status) × (event ≡ ack x (q .ts) cnt status) × (marks′ .ts ≡ q .ts) × (marks′ .places ≡ keeping x cnt status (q .places)))
+      ⊎ ((x : ℕ) × (cnt : ℕ) × (status : Status) × (event ≡ ack x (q .ts) cnt status) × (marks′ .ts ≡ q .ts)
+      × (marks′ .places ≡ keeping x cnt status (q .places)))
 
 -- a restart: the record is the fresh one, and all else stays
 pub restart-kept : (s : Settings) (clocks : Clocks) (L : ℕ) (p : Bool) {marks : Marks} {now : ℕ} {top : ℕ → ℕ} {st : State}
     → Inv s clocks L p marks now top st → (g : ℕ) (top′ : ℕ → ℕ) → now ≤ g → ((k : ℕ) → top k ≤ top′ k)
-    → Inv s clocks L p marks g top′ (record { recorder = st .recorder; observers = st .observers; standby = fresh; history = st .history })
+    → Inv s clocks L p marks g top′
+    (record { recorder = st .recorder; observers = st .observers; standby = fresh; history = st .history })
 restart-kept s clocks L p {marks} {now} {top} {st} inv g top′ later up =
     let ext = stays (inv .gh) (st .recorder .counter) now g later in
     let f = form-is-kept .at-first s in
@@ -122,56 +106,38 @@ module _ (s : Settings) (ok : refusalOf s ≡ 0) (w : ℕ) (window-fits : w ≤ 
   unfolding delivered
   ack-sent x ts cnt status e =
       let came : wasSent (st .history) (observer x) (CheckAck ts cnt status) ≡ true = rw e at arrived in
-      ack-on s clocks L p ext
-      (sent-has (λ m. Behind s clocks L p gh counter now (m .by) (m .what) (m .time)) (observer x) (CheckAck ts cnt status) (st .history) (inv .history-part) came .1)
+      ack-on s clocks L p ext (behind s clocks L p inv (observer x) (CheckAck ts cnt status) came .1 x refl)
 
   -- what is kept once this ack is
-  kept-with : (x cnt : ℕ) (status : Status) → event ≡ ack x (q .ts) cnt status → (y : ℕ) → Kept (keeping x cnt status (q .places)) y
-      → AckFact s clocks L p gh counter g y (q .ts) (getD (keeping x cnt status (q .places)) y unused .counter) (getD (keeping x cnt status (q .places)) y unused .status)
-  kept-with x cnt status e y k = ⊎-elim mine old (place-of (q .places) x cnt status y)
-    where
-      mine : (y ≡ x) × (getD (keeping x cnt status (q .places)) y unused ≡ record { kept = true; counter = cnt; status = status })
-          → AckFact s clocks L p gh counter g y (q .ts) (getD (keeping x cnt status (q .places)) y unused .counter) (getD (keeping x cnt status (q .places)) y unused .status)
-      mine a = rw (a .1, a .0) (ack-sent x (q .ts) cnt status e)
-
-      old : getD (keeping x cnt status (q .places)) y unused ≡ getD (q .places) y unused
-          → AckFact s clocks L p gh counter g y (q .ts) (getD (keeping x cnt status (q .places)) y unused .counter) (getD (keeping x cnt status (q .places)) y unused .status)
-      old a = rw a (ack-on s clocks L p ext (part .kept y (rw a at k)))
+  kept-with : (x cnt : ℕ) (status : Status) → event ≡ ack x (q .ts) cnt status
+      → Acked s clocks L p gh counter g (q .ts) (keeping x cnt status (q .places))
+  kept-with x cnt status e y k =
+      ⊎-elim (λ old. rw old (ack-on s clocks L p ext (part .kept y (rw old at k))))
+      (λ mine. rw (mine .1, mine .0) (ack-sent x (q .ts) cnt status e))
+      (after-store unused (q .places) x (record { kept = true; counter = cnt; status = status }) y)
 
   -- ---- the record after the step
 
   abbrev Rest : Outcome Standby → Type 0
   Rest o =
-      (lastReading (o .rec) ≤ top′ (partyKey standby))
-      × ((x : ℕ) → Kept (o .rec .places) x
-      → AckFact s clocks L p gh counter g x (o .rec .ts) (getD (o .rec .places) x unused .counter) (getD (o .rec .places) x unused .status))
+      (lastReading (o .rec) ≤ top′ (partyKey standby)) × Acked s clocks L p gh counter g (o .rec .ts) (o .rec .places)
 
-  keeps-on : (x cnt : ℕ) (status : Status) → event ≡ ack x (q .ts) cnt status → Rest (afterKeeping s q r (keeping x cnt status (q .places)))
-  unfolding afterKeeping
-  keeps-on x cnt status e = by (closes s (keptMarks (keeping x cnt status (q .places))))
-    where
-      by : (b : Bool)
-          → Rest
-          (if b then verdict (keeping x cnt status (q .places)) leaving closed r
-          else says "waiting" leaving record { «open_flag» = q .«open_flag»; ts = q .ts; «last_reading» = r; places = keeping x cnt status (q .places) })
-      by true = (seen, λ y k. absurd (none-kept y k))
-      by false = (seen, kept-with x cnt status e)
-
-  rest : (o : Outcome Standby) → StandbyStep w s q r event o → Rest o
-  rest o (inl a) = rw (a .0) (le-trans (part .read) (up _), λ x k. ack-on s clocks L p ext (part .kept x k))
-  rest o (inr (inl a)) = rw (a .1) (seen, λ x k. absurd (none-kept x k))
-  rest o (inr (inr (inl a))) = rw (a .1) (seen, λ x k. absurd (none-kept x k))
-  rest o (inr (inr (inr (inl a)))) = rw (a .1) (seen, λ x k. ack-on s clocks L p ext (part .kept x k))
-  rest o (inr (inr (inr (inr a)))) = rw (a .7) (keeps-on (a .0) (a .1) (a .2) (a .3))
+  rest : {e : Event} {o : Outcome Standby} → Way w s q r e o → event ≡ e → Rest o
+  rest (refusing _ k) same = (le-trans (part .read) (up _), λ x k. ack-on s clocks L p ext (part .kept x k))
+  rest beginning same = (seen, λ x k. absurd (none-kept x k))
+  rest (expiring _ _) same = (seen, λ x k. absurd (none-kept x k))
+  rest (staying _ _) same = (seen, λ x k. ack-on s clocks L p ext (part .kept x k))
+  rest (closing _ _ _ _ _) same = (seen, λ x k. absurd (none-kept x k))
+  rest (counting x cnt status _) same = (seen, kept-with x cnt status same)
 
   after-part : StandbyPart s clocks L p gh counter g (top′ (partyKey standby)) (out .rec)
   after-part =
       let f = form-is-kept .by-steps w s q r event (part .sized) (part .form) in
-      let d = rest out (standby-step w s q r event) in
+      let d = rest (way w s q r event) refl in
       record { form = f .0; sized = f .1; read = d .0; kept = d .1 }
 
-  news : (m : Message) → out .answer ≡ sends m → Behind s clocks L p gh counter g standby m g
-  news m e = rw (standby-sends w s q r event m e) (read, le-refl g)
+  news : (m : Message) → sent (out .answer) ≡ message m → Behind s clocks L p gh counter g standby m g
+  news m e = rw (standby-sends w s q r event m e) (λ _. (read, le-refl g))
 
   -- ---- told dead
 
@@ -199,11 +165,15 @@ module _ (s : Settings) (ok : refusalOf s ≡ 0) (w : ℕ) (window-fits : w ≤ 
             let a = each y k in
             let gain = lower (a .begun) read (le-trans (a .after) (a .past)) in
             let above = verdicts-hold .is-greatest places .none-higher y k in
-            let less = a .low j v′ b (omega (arith, early, since, named .past, a .after, a .past, gain, d .4, spare, window-fits, accepted-in-range s ok .P-least)) in
+            let least = accepted-in-range s ok .P-least in
+            let soon : v′ < a .said-at =
+            omega (arith, early, since, named .past, a .after, a .past, gain, d .4, spare, window-fits, least) in
+            let less = a .low j v′ b soon in
             omega (arith, above, less, v .1);
       }
 
-  pub standby-kept : (marks′ : Marks) → ShowsFrom marks q event (out .answer) marks′ → Inv s clocks L p marks′ g top′ (afterStandby st g out)
+  pub standby-kept : (marks′ : Marks) → ShowsFrom marks q event (out .answer) marks′
+      → Inv s clocks L p marks′ g top′ (afterStandby st g out)
   standby-kept marks′ shows =
       record {
         gh = gh;
@@ -215,13 +185,16 @@ module _ (s : Settings) (ok : refusalOf s ≡ 0) (w : ℕ) (window-fits : w ≤ 
             posted-all (λ m. Behind s clocks L p gh counter g (m .by) (m .what) (m .time)) standby g (out .answer) (st .history)
             (history-on s clocks L p ext (inv .history-part)) news;
         early = inv .early;
-        doom = λ t. ⊎-elim (λ before. let d = inv .doom before in (d .0, doomed-on s clocks L p ext (d .1))) (λ n. (n .0, doomed (n .0) (n .1))) (shows .dead t);
+        doom = λ t.
+            ⊎-elim (λ before. let d = inv .doom before in (d .0, doomed-on s clocks L p ext (d .1)))
+            (λ n. (n .0, doomed (n .0) (n .1))) (shows .dead t);
         registered-early = λ t. inv .registered-early (sym (shows .registered) ∙ t);
         noted = note (shows .round);
       }
     where
       note : ((marks′ .ts ≡ marks .ts) × (marks′ .places ≡ marks .places))
-          ⊎ ((x : ℕ) × (cnt : ℕ) × (status : Status) × (event ≡ ack x (q .ts) cnt status) × (marks′ .ts ≡ q .ts) × (marks′ .places ≡ keeping x cnt status (q .places)))
+          ⊎ ((x : ℕ) × (cnt : ℕ) × (status : Status) × (event ≡ ack x (q .ts) cnt status) × (marks′ .ts ≡ q .ts)
+          × (marks′ .places ≡ keeping x cnt status (q .places)))
           → Acked s clocks L p gh counter g (marks′ .ts) (marks′ .places)
       note (inl a) = rw (a .0, a .1) (λ x k. ack-on s clocks L p ext (inv .noted x k))
       note (inr a) = rw (a .4, a .5) (kept-with (a .0) (a .1) (a .2) (a .3))

@@ -3,12 +3,13 @@
 use Prim.Native.Nat.{ℕ, _+_, _-_, _*_, _≤_, _<_, min}
 use native.Mathlib.Omega.{arith}
 use mathlib.Core.Path.{_≡_, refl, sym, ap, _∙_}
-use mathlib.Core.Bool.{Bool, true, false}
+use mathlib.Core.Bool.{Bool, true, false, _&&_}
 use borrow.Author.Tests.{ltb-true, leb-true, leb-false}
 use Rattle.words.specs.Tests.{_<?_, _≤?_}
 use Rattle.words.proofs.Booleans.{both-hold}
 use Rattle.settings.specs.declared.Settings.{Settings}
 use Rattle.settings.specs.Settings.{O, G, rounding}
+use Rattle.messages.specs.Messages.{topReading}
 use Rattle.rack.specs.Clocks.{Clock, reads}
 
 -- the party reads r at common time g
@@ -16,11 +17,14 @@ pub record Reads (s : Settings) (clock : Clock) (g r : ℕ) : Type 0 where
   pub low : r + clock .behind ≤ clock .at g
   pub high : clock .at g < r + clock .behind + G s
 
-pub is-reading : (s : Settings) (clock : Clock) (g r : ℕ) → reads s clock g r ≡ true → Reads s clock g r
+-- what stands in a run is a reading, and in range
+pub is-reading : (s : Settings) (clock : Clock) (g r : ℕ) → (reads s clock g r && (r ≤? topReading)) ≡ true
+    → Reads s clock g r × (r ≤ topReading)
 unfolding reads
 is-reading s clock g r e =
-    let p = both-hold (r + clock .behind ≤? clock .at g) (clock .at g <? r + clock .behind + G s) e in
-    record { low = leb-true _ _ (p .0); high = ltb-true _ _ (p .1) }
+    let parts = both-hold (reads s clock g r) (r ≤? topReading) e in
+    let p = both-hold (r + clock .behind ≤? clock .at g) (clock .at g <? r + clock .behind + G s) (parts .0) in
+    (record { low = leb-true _ _ (p .0); high = ltb-true _ _ (p .1) }, leb-true _ _ (parts .1))
 
 span : (clock : Clock) (g₁ g₂ : ℕ) → g₁ ≤ g₂ → clock .at g₂ ≡ clock .at g₁ + (g₂ - g₁)
 span clock g₁ g₂ h =
@@ -28,7 +32,8 @@ span clock g₁ g₂ h =
     ap (clock .at) (sym e) ∙ clock .steady g₁ (g₂ - g₁)
 
 -- over a span the reading gains at most the span and the rounding
-pub upper : {s : Settings} {clock : Clock} {g₁ r₁ g₂ r₂ : ℕ} → Reads s clock g₁ r₁ → Reads s clock g₂ r₂ → g₁ ≤ g₂ → g₂ ≤ g₁ + 2 * O s
+pub upper : {s : Settings} {clock : Clock} {g₁ r₁ g₂ r₂ : ℕ} → Reads s clock g₁ r₁ → Reads s clock g₂ r₂ → g₁ ≤ g₂
+    → g₂ ≤ g₁ + 2 * O s
     → r₂ + g₁ ≤ r₁ + g₂ + rounding s
 upper {s} {clock} {g₁} {r₁} {g₂} {r₂} a b h l = omega (arith, span clock g₁ g₂ h, a .high, b .low)
 
@@ -38,7 +43,8 @@ pub lower : {s : Settings} {clock : Clock} {g₁ r₁ g₂ r₂ : ℕ} → Reads
 lower {s} {clock} {g₁} {r₁} {g₂} {r₂} a b h = omega (arith, span clock g₁ g₂ h, a .low, b .high)
 
 -- a clock that has gained the observers' lease: nearly so much time has passed
-pub lease-passed : {s : Settings} {clock : Clock} {g₁ r₁ g₂ r₂ : ℕ} → Reads s clock g₁ r₁ → Reads s clock g₂ r₂ → g₁ ≤ g₂ → r₁ + O s ≤ r₂
+pub lease-passed : {s : Settings} {clock : Clock} {g₁ r₁ g₂ r₂ : ℕ} → Reads s clock g₁ r₁ → Reads s clock g₂ r₂ → g₁ ≤ g₂
+    → r₁ + O s ≤ r₂
     → g₁ + O s ≤ g₂ + rounding s
 lease-passed {s} {clock} {g₁} {r₁} {g₂} {r₂} a b h gained = by (g₂ ≤? g₁ + 2 * O s) refl
   where

@@ -1,8 +1,8 @@
 -- Claim 2: a recorder that had registered and whose requests have run out is detected. Assumes nothing.
-use Prim.Native.Nat.{ℕ, _+_, _-_, _*_, _≤_, _<_}
+use Prim.Native.Nat.{ℕ, _+_, _*_, _≤_, _<_}
 use native.Mathlib.Omega.{arith}
 use native.Mathlib.Nat.{le-refl}
-use mathlib.Core.Path.{_≡_, refl, sym, ap, _∙_, subst}
+use mathlib.Core.Path.{_≡_, refl, sym, _∙_, subst}
 use mathlib.Core.Bool.{Bool, true, false, _||_, not}
 use mathlib.Core.List.{List, [], _∷_, _++_, append-assoc}
 use mathlib.Core.Logic.{_⊎_, inl, inr, ⊎-elim}
@@ -11,33 +11,31 @@ use borrow.Author.Tests.{leb-true, leb-false}
 use Rattle.words.specs.Tests.{_≤?_}
 use Rattle.words.specs.Lists.{every}
 use Rattle.words.specs.Said.{Said}
-use Rattle.words.specs.Said.Said.{refusal, gives}
 use Rattle.words.proofs.Booleans.{both-hold}
 use Rattle.settings.specs.declared.Settings.{Settings}
 use Rattle.settings.specs.Settings.{O, rounding, window, refusalOf}
 use Rattle.settings.proofs.Laws.{accepted, accepted-in-range}
-use Rattle.settings.proofs.Quorums.{quorums-meet}
+use Rattle.quorums.proofs.Quorums.{quorums-meet}
 use Rattle.messages.specs.declared.Status.the-variants.{Alive}
 use Rattle.messages.specs.declared.Message.the-variants.{LeaseRequest}
-use Rattle.messages.specs.Messages.{topReading}
 use Rattle.messages.specs.Answers.{Spoken, saysOf}
-use Rattle.messages.specs.Answers.Spoken.{message, wordWith}
 use Rattle.recorder_rules.specs.Recorder.{registered}
-use Rattle.observer_rules.specs.Observer.Event.{request, cut, check}
+use Rattle.observer_rules.specs.declared.ObserverEvent.the-variants.{Request as request, Cut as cut, Check as check}
 use Rattle.standby_rules.specs.declared.Place.{Place}
 use Rattle.standby_rules.specs.Standby.{keptMarks, keeping, verdict, greatest, unused, noPlaces}
-use Rattle.standby_rules.specs.Standby.Event.{begin, ack}
+use Rattle.standby_rules.specs.declared.StandbyEvent.the-variants.{Begin as begin, Ack as ack}
 use Rattle.standby_rules.specs.Claims.{Kept}
 use Rattle.standby_rules.proofs.Verdicts.{verdicts-hold}
-use Rattle.rack.specs.Clocks.{Clocks, reads}
+use Rattle.rack.specs.Clocks.{Clocks}
 use Rattle.rack.specs.Runs.{ours, Event, time, Sent, Party, messageKey, sameNumbers, wasSent, posted, perform, onClock, delivered, stateAfter, answerTo, isRun}
 use Rattle.rack.specs.Runs.Event.{atRecorder, atObserver, atStandby, crash, restart}
 use Rattle.rack.specs.Runs.Party.{recorder, standby, observer}
 use Rattle.rack.specs.Claims.{Ended, isRequest, sentBy, arrivesWithin, prompt, noBegin, RegisteredIn, DeadIsDetected}
 use Rattle.rack.proofs.Clocks.{Reads, is-reading, lower}
-use Rattle.rack.proofs.History.{All, none, more, same-key, sent-has}
+use Rattle.rack.proofs.History.{All, none, more, all-behind, same-key, sent-has, posted-either}
 use Rattle.rack.proofs.Invariant.{Marks}
-use Rattle.rack.proofs.Along.{Adds, adds, Early, nothing, Holds, at-first, keeps, keeps-standby, registers}
+use Rattle.rack.proofs.AtObserver.{Early}
+use Rattle.rack.proofs.Along.{Adds, adds, part-of, nothing, Holds, stays, from-first, keeps-standby, registers}
 use Rattle.rack.proofs.Rounds.{Closing, ended-by, begin-opens, same-round}
 
 -- ---- lists
@@ -51,13 +49,9 @@ all-and : {A : Type 0} {P Q : A → Type 0} {xs : List A} → All P xs → All Q
 all-and none none = none
 all-and (more p ps) (more q qs) = more (p, q) (all-and ps qs)
 
-every-part : {A : Type 0} (test : A → Bool) (xs : List A) (y : A) (ys : List A) → every test (xs ++ (y ∷ ys)) ≡ true → test y ≡ true
-unfolding every
-every-part test [] y ys e = both-hold (test y) (every test ys) e .0
-every-part test (x ∷ xs) y ys e = every-part test xs y ys (both-hold (test x) (every test (xs ++ (y ∷ ys))) e .1)
-
 -- of two ends of one list the one is an end of the other
-ends-meet : {A : Type 0} (xs ys us vs : List A) → xs ++ ys ≡ us ++ vs → ((ms : List A) × (ys ≡ ms ++ vs)) ⊎ ((ms : List A) × (vs ≡ ms ++ ys))
+ends-meet : {A : Type 0} (xs ys us vs : List A) → xs ++ ys ≡ us ++ vs
+    → ((ms : List A) × (ys ≡ ms ++ vs)) ⊎ ((ms : List A) × (vs ≡ ms ++ ys))
 ends-meet [] ys us vs e = inl (us, e)
 ends-meet (x ∷ xs) ys [] vs e = inr (x ∷ xs, sym e)
 ends-meet (x ∷ xs) ys (u ∷ us) vs e = ends-meet xs ys us vs (tail e)
@@ -65,63 +59,70 @@ ends-meet (x ∷ xs) ys (u ∷ us) vs e = ends-meet xs ys us vs (tail e)
     tail : x ∷ (xs ++ ys) ≡ u ∷ (us ++ vs) → xs ++ ys ≡ us ++ vs
     tail e = cc
 
--- ---- the history only grows
+-- ---- every request arrives by the time f + D
 
-posted-less : (Q : Sent → Type 0) (by : Party) (g : ℕ) (answer : Said Spoken) (history : List Sent) → All Q (posted by g answer history) → All Q history
-unfolding posted
-posted-less Q by g (refusal k) history a = a
-posted-less Q by g (gives (message m)) history (more q a) = a
-posted-less Q by g (gives (wordWith v values)) history a = a
-
-history-less : (s : Settings) (Q : Sent → Type 0) (later past : List Event) → All Q (stateAfter ours s (later ++ past) .history) → All Q (stateAfter ours s past .history)
-unfolding stateAfter perform
-history-less s Q [] past a = a
-history-less s Q (atRecorder g r e ∷ later) past a = history-less s Q later past (posted-less Q recorder g _ (stateAfter ours s (later ++ past) .history) a)
-history-less s Q (atObserver x g r e ∷ later) past a = history-less s Q later past (posted-less Q (observer x) g _ (stateAfter ours s (later ++ past) .history) a)
-history-less s Q (atStandby g r e ∷ later) past a = history-less s Q later past (posted-less Q standby g _ (stateAfter ours s (later ++ past) .history) a)
-history-less s Q (crash x g ∷ later) past a = history-less s Q later past a
-history-less s Q (restart g ∷ later) past a = history-less s Q later past a
-
-before-it : (s : Settings) (Q : Sent → Type 0) (later past : List Event) (e : Event) → All Q (stateAfter ours s (later ++ (e ∷ past)) .history)
+-- the history only grows
+history-less : (s : Settings) (Q : Sent → Type 0) (past : List Event) (e : Event)
+    → All Q (stateAfter ours s (e ∷ past) .history)
     → All Q (stateAfter ours s past .history)
-before-it s Q later past e a = history-less s Q (e ∷ []) past (history-less s Q later (e ∷ past) a)
-
--- every request arrives by the time f + D
-arrival : (f D g c : ℕ) (full past : List Sent) → ((Q : Sent → Type 0) → All Q full → All Q past) → sentBy f full ≡ true → arrivesWithin D full c g ≡ true
-    → wasSent past recorder (LeaseRequest c) ≡ true → g ≤ f + D
-unfolding sentBy isRequest
-arrival f D g c full past less sent quick came =
-    let tests =
-    all-and (every-all (λ m. not (isRequest (m .what)) || (m .time ≤? f)) full sent)
-    (every-all (λ m. not (sameNumbers (messageKey (m .what)) (messageKey (LeaseRequest c))) || (g ≤? m .time + D)) full quick) in
-    let m =
-    sent-has (λ m. ((not (isRequest (m .what)) || (m .time ≤? f)) ≡ true) × ((not (sameNumbers (messageKey (m .what)) (messageKey (LeaseRequest c))) || (g ≤? m .time + D)) ≡ true))
-    recorder (LeaseRequest c) past (less _ tests) came in
-    let by-f = leb-true (m .0) f (m .1 .0) in
-    let by-D = leb-true g (m .0 + D) (rw (same-key (messageKey (LeaseRequest c))) at (m .1 .1)) in
-    omega arith
-
-early-at : (s : Settings) (f D : ℕ) (later past : List Event) (e : Event) → sentBy f (stateAfter ours s (later ++ (e ∷ past)) .history) ≡ true
-    → prompt D (stateAfter ours s (later ++ (e ∷ past)) .history) e ≡ true → delivered (stateAfter ours s past .history) e ≡ true → Early (f + D) e
-unfolding prompt delivered
-early-at s f D later past (atRecorder g r e) sent quick came = tt
-early-at s f D later past (atStandby g r e) sent quick came = tt
-early-at s f D later past (crash x g) sent quick came = tt
-early-at s f D later past (restart g) sent quick came = tt
-early-at s f D later past (atObserver x g r (request c)) sent quick came = λ d a.
-    arrival f D g c (stateAfter ours s (later ++ (atObserver x g r (request c) ∷ past)) .history) (stateAfter ours s past .history) (λ Q. before-it s Q later past (atObserver x g r (request c))) sent quick came
-early-at s f D later past (atObserver x g r (cut c k)) sent quick came = λ d a.
-    arrival f D g c (stateAfter ours s (later ++ (atObserver x g r (cut c k) ∷ past)) .history) (stateAfter ours s past .history) (λ Q. before-it s Q later past (atObserver x g r (cut c k))) sent quick came
-early-at s f D later past (atObserver x g r (check ts)) sent quick came = λ d. ⊎-elim (λ a. clash a) (λ a. clash′ a)
+unfolding stateAfter perform
+history-less s Q past e = by e
   where
-    clash : {d : ℕ} → check ts ≡ request d → g ≤ f + D
-    clash a = let z : _≡_ {A = ℕ} 0 1 = cc in absurd (let v : _≡_ {A = ℕ} 0 1 = z in omega arith)
+    posted-less : (by : Party) (g : ℕ) (answer : Said Spoken) (history : List Sent) → All Q (posted by g answer history)
+        → All Q history
+    posted-less by g answer history =
+        posted-either (λ sent. All Q sent → All Q history) by g answer history (λ a. a) (λ m q. all-behind (_ ∷ []))
 
-    clash′ : {d : ℕ} → (k : ℕ) × (check ts ≡ cut d k) → g ≤ f + D
-    clash′ a = let b = a .1 in let z : _≡_ {A = ℕ} 0 1 = cc in absurd (let v : _≡_ {A = ℕ} 0 1 = z in omega arith)
+    by : (e : Event) → All Q (stateAfter ours s (e ∷ past) .history) → All Q (stateAfter ours s past .history)
+    by (atRecorder g r e) = posted-less recorder g _ (stateAfter ours s past .history)
+    by (atObserver x g r e) = posted-less (observer x) g _ (stateAfter ours s past .history)
+    by (atStandby g r e) = posted-less standby g _ (stateAfter ours s past .history)
+    by (crash x g) = λ a. a
+    by (restart g) = λ a. a
 
-module _ (s : Settings) (ok : refusalOf s ≡ 0) (clocks : Clocks) (run : List Event) (f D : ℕ) (is-run : isRun ours s clocks run ≡ true)
-    (sent : sentBy f (stateAfter ours s run .history) ≡ true) (quick : every (prompt D (stateAfter ours s run .history)) run ≡ true) where
+module _ (s : Settings) (clocks : Clocks) (f D : ℕ) (full : List Sent) (sent : sentBy f full ≡ true) where
+  -- the history so far is part of the full one
+  abbrev Less : List Sent → Type 1
+  Less history = (Q : Sent → Type 0) → All Q full → All Q history
+
+  arrival : (history : List Sent) → Less history → (g c : ℕ) → arrivesWithin D full c g ≡ true
+      → wasSent history recorder (LeaseRequest c) ≡ true → g ≤ f + D
+  unfolding sentBy isRequest
+  arrival history less g c quick came =
+      let by-f = every-all (λ m. not (isRequest (m .what)) || (m .time ≤? f)) full sent in
+      let by-D =
+      every-all (λ m. not (sameNumbers (messageKey (m .what)) (messageKey (LeaseRequest c))) || (g ≤? m .time + D)) full
+      quick in
+      let m = sent-has _ recorder (LeaseRequest c) history (less _ (all-and by-f by-D)) came in
+      let sent-by = leb-true (m .0) f (m .1 .0) in
+      let within = leb-true g (m .0 + D) (rw (same-key (messageKey (LeaseRequest c))) at (m .1 .1)) in
+      omega arith
+
+  early-at : (history : List Sent) → Less history → (e : Event) → prompt D full e ≡ true → delivered history e ≡ true
+      → Early (f + D) e
+  unfolding prompt delivered
+  early-at history less (atRecorder g r e) quick came = tt
+  early-at history less (atObserver x g r (request c)) quick came = arrival history less g c quick came
+  early-at history less (atObserver x g r (cut c k)) quick came = arrival history less g c quick came
+  early-at history less (atObserver x g r (check ts)) quick came = tt
+  early-at history less (atStandby g r e) quick came = tt
+  early-at history less (crash x g) quick came = tt
+  early-at history less (restart g) quick came = tt
+
+  all-early : (events : List Event) → isRun ours s clocks events ≡ true → Less (stateAfter ours s events .history)
+      → every (prompt D full) events ≡ true → All (Early (f + D)) events
+  unfolding every
+  all-early [] run less quick = none
+  all-early (e ∷ past) run less quick =
+      let a = adds ours s clocks past e run in
+      let p = both-hold (prompt D full e) (every (prompt D full) past) quick in
+      let before : Less (stateAfter ours s past .history) = λ Q all. history-less s Q past e (less Q all) in
+      more (early-at (stateAfter ours s past .history) before e (p .0) (a .arrived)) (all-early past (a .before) before (p .1))
+
+module _ (s : Settings) (ok : refusalOf s ≡ 0) (clocks : Clocks) (run : List Event) (f D : ℕ)
+    (is-run : isRun ours s clocks run ≡ true)
+    (sent : sentBy f (stateAfter ours s run .history) ≡ true)
+    (quick : every (prompt D (stateAfter ours s run .history)) run ≡ true) where
   abbrev L : ℕ
   L = f + D
 
@@ -129,34 +130,33 @@ module _ (s : Settings) (ok : refusalOf s ≡ 0) (clocks : Clocks) (run : List E
   abbrev Held : Marks → List Event → Type 0
   Held marks events = Holds s ok window (le-refl (window s)) clocks L true marks events
 
-  soon : (later past : List Event) (e : Event) → run ≡ later ++ (e ∷ past) → Adds ours s clocks past e → Early L e
-  soon later past e split add =
-      early-at s f D later past e (rw split at sent)
-      (every-part (prompt D (stateAfter ours s (later ++ (e ∷ past)) .history)) later e past (rw split at quick)) (add .arrived)
+  -- what has happened by some point of the run
+  abbrev Part : List Event → Type 0
+  Part past = (later : List Event) × (run ≡ later ++ past)
 
-  part-of : (later past : List Event) → run ≡ later ++ past → isRun ours s clocks past ≡ true
-  part-of later past split = down later (rw split at is-run)
-    where
-      down : (later : List Event) → isRun ours s clocks (later ++ past) ≡ true → isRun ours s clocks past ≡ true
-      down [] h = h
-      down (e ∷ later) h = down later (adds ours s clocks (later ++ past) e h .before)
+  older : (newer past : List Event) → Part (newer ++ past) → Part past
+  older newer past part = (part .0 ++ newer, part .1 ∙ sym (append-assoc (part .0) newer past))
 
-  one-on : (later middle past : List Event) (e : Event) → run ≡ later ++ (e ∷ (middle ++ past)) → run ≡ (later ++ (e ∷ [])) ++ (middle ++ past)
-  one-on later middle past e split = split ∙ sym (append-assoc later (e ∷ []) (middle ++ past))
+  run-of : (past : List Event) → Part past → isRun ours s clocks past ≡ true
+  run-of past part = part-of ours s clocks (part .0) past (rw (part .1) at is-run)
+
+  early-of : (past : List Event) → Part past → All (Early L) past
+  early-of past part =
+      all-behind (part .0)
+      (subst (All (Early L)) (part .1)
+      (all-early s clocks f D (stateAfter ours s run .history) sent run is-run (λ Q a. a) quick))
 
   -- what part of the run has come to, the rest keeps
-  stays : (marks : Marks) (later middle past : List Event) → run ≡ later ++ (middle ++ past) → Held marks past → Held marks (middle ++ past)
-  stays marks later [] past split i = i
-  stays marks later (e ∷ middle) past split i =
-      let a = adds ours s clocks (middle ++ past) e (part-of later (e ∷ (middle ++ past)) split) in
-      keeps s ok window (le-refl (window s)) clocks L true marks (middle ++ past)
-      (stays marks (later ++ (e ∷ [])) middle past (one-on later middle past e split) i) e a (λ _. soon later (middle ++ past) e split a)
+  kept : (marks : Marks) (middle past : List Event) → Part (middle ++ past) → Held marks past → Held marks (middle ++ past)
+  kept marks middle past part =
+      stays s ok window (le-refl (window s)) clocks L true marks middle past (run-of (middle ++ past) part)
+      (λ _. early-of (middle ++ past) part)
 
-  from-start : (later events : List Event) → run ≡ later ++ events → Held nothing events
-  from-start later [] split = at-first s ok window (le-refl (window s)) clocks L true
-  from-start later (e ∷ past) split =
-      let a = adds ours s clocks past e (part-of later (e ∷ past) split) in
-      keeps s ok window (le-refl (window s)) clocks L true nothing past (from-start (later ++ (e ∷ [])) past (one-on later [] past e split)) e a (λ _. soon later past e split a)
+  to-end : (marks : Marks) (past : List Event) → Part past → Held marks past → Held marks run
+  to-end marks past part inv = subst (Held marks) (sym (part .1)) (kept marks (part .0) past ([], part .1) inv)
+
+  held : (past : List Event) → Part past → Held nothing past
+  held past part = from-first s ok window (le-refl (window s)) clocks L true past (run-of past part) (λ _. early-of past part)
 
   -- ---- the round that ended
 
@@ -173,36 +173,32 @@ module _ (s : Settings) (ok : refusalOf s ≡ 0) (clocks : Clocks) (run : List E
     abbrev places : List Place
     places = keeping (closing .x) (closing .cnt) (closing .status) (stateAfter ours s past .standby .places)
 
-    past-split : run ≡ (later ++ (ending ∷ [])) ++ past
-    past-split = split ∙ sym (append-assoc later (ending ∷ []) past)
-
-    begin-split : run ≡ ((later ++ (ending ∷ [])) ++ between) ++ (atStandby g ts begin ∷ earlier)
-    begin-split = past-split ∙ sym (append-assoc (later ++ (ending ∷ [])) between (atStandby g ts begin ∷ earlier))
+    here : Part past
+    here = older (ending ∷ []) past (later, split)
 
     at-begin : Adds ours s clocks earlier (atStandby g ts begin)
-    at-begin = adds ours s clocks earlier (atStandby g ts begin) (part-of ((later ++ (ending ∷ [])) ++ between) (atStandby g ts begin ∷ earlier) begin-split)
-
-    earlier-split : run ≡ (((later ++ (ending ∷ [])) ++ between) ++ (atStandby g ts begin ∷ [])) ++ earlier
-    earlier-split = one-on ((later ++ (ending ∷ [])) ++ between) [] earlier (atStandby g ts begin) begin-split
+    at-begin = adds ours s clocks earlier (atStandby g ts begin) (part-of ours s clocks between _ (run-of past here))
 
     its-ts : stateAfter ours s past .standby .ts ≡ ts
     its-ts =
         same-round s ok window (le-refl (window s)) clocks L true earlier g ts
         (begin-opens s ok window (le-refl (window s)) clocks L true nothing earlier
-        (from-start (((later ++ (ending ∷ [])) ++ between) ++ (atStandby g ts begin ∷ [])) earlier earlier-split) g ts at-begin)
+        (held earlier (older (atStandby g ts begin ∷ []) earlier (older between (atStandby g ts begin ∷ earlier) here))) g ts
+        at-begin)
         between nb (closing .was-open)
 
     begun : Reads s (clocks .standby) g ts
     unfolding onClock
-    begun = is-reading s (clocks .standby) g ts (both-hold (reads s (clocks .standby) g ts) (ts ≤? topReading) (at-begin .on-clock) .0)
+    begun = is-reading s (clocks .standby) g ts (at-begin .on-clock) .0
 
     -- the marks with the round that ended
     abbrev with-round : Marks → Marks
-    with-round marks = record { told = marks .told; reg = marks .reg; ts = stateAfter ours s past .standby .ts; places = places }
+    with-round marks =
+        record { told = marks .told; reg = marks .reg; ts = stateAfter ours s past .standby .ts; places = places }
 
     noted : (marks : Marks) → Held marks past → Held (with-round marks) (ending ∷ past)
     noted marks inv =
-        let a = adds ours s clocks past ending (part-of later (ending ∷ past) split) in
+        let a = adds ours s clocks past ending (run-of (ending ∷ past) (later, split)) in
         let a′ = subst (λ (v : Event). Adds ours s clocks past v) (closing .is-ack) a in
         subst (λ (v : Event). Held (with-round marks) (v ∷ past)) (sym (closing .is-ack))
         (keeps-standby s ok window (le-refl (window s)) clocks L true marks past inv (closing .g) (closing .r)
@@ -214,11 +210,14 @@ module _ (s : Settings) (ok : refusalOf s ≡ 0) (clocks : Clocks) (run : List E
     long-after a read = by (a ≤? g) refl (rw its-ts at read)
       where
         by : (b : Bool) → (a ≤? g) ≡ b → Reads s (clocks .standby) a ts → L + O s + rounding s ≤ a
-        by true e read = let gain = lower read begun (leb-true a g e) in omega (arith, bound, accepted s ok .b, accepted-in-range s ok .P-least, leb-true a g e)
+        by true e read =
+            let gain = lower read begun (leb-true a g e) in
+            omega (arith, bound, accepted s ok .b, accepted-in-range s ok .P-least, leb-true a g e)
         by false e read = omega (arith, bound, leb-false a g e)
 
     -- at the end of the run the recorder has registered, and the round is noted
-    says-dead : (reg : Marks) → reg .reg ≡ true → Held (with-round reg) run → (m : ℕ) × (answerTo ours s past ending ≡ saysOf "dead" m)
+    says-dead : (reg : Marks) → reg .reg ≡ true → Held (with-round reg) run
+        → (m : ℕ) × (answerTo ours s past ending ≡ saysOf "dead" m)
     says-dead reg is inv =
         let r = inv .registered-early is refl in
         let y = quorums-meet s ok (r .0) (keptMarks places) (r .1) (closing .query) in
@@ -234,50 +233,51 @@ module _ (s : Settings) (ok : refusalOf s ≡ 0) (clocks : Clocks) (run : List E
         verdict-of (closing .says-so) least one (λ alive. omega (arith, late, b .after, b .alive refl alive)) ended
       where
         verdict-of : answerTo ours s past ending ≡ verdict places → 0 < greatest places
-            → (one : (x : ℕ) × Kept places x × (getD places x unused .counter ≡ greatest places)) → (getD places (one .0) unused .status ≡ Alive → ⊥)
+            → (one : (x : ℕ) × Kept places x × (getD places x unused .counter ≡ greatest places))
+            → (getD places (one .0) unused .status ≡ Alive → ⊥)
             → Ended (answerTo ours s past ending) → (m : ℕ) × (answerTo ours s past ending ≡ saysOf "dead" m)
-        verdict-of same least one not-alive (inl e) = absurd (omega (arith, least, verdicts-hold .unknown places (sym same ∙ e)))
+        verdict-of same least one not-alive (inl e) =
+            absurd (omega (arith, least, verdicts-hold .unknown places (sym same ∙ e)))
         verdict-of same least one not-alive (inr m) =
             ⊎-elim (λ dead. (m .0, dead))
-            (λ alive. let v = verdicts-hold .alive places (m .0) (sym same ∙ alive) in absurd (not-alive (v .2 (one .0) (one .1) (one .2 ∙ sym (v .1)))))
+            (λ alive. let v = verdicts-hold .alive places (m .0) (sym same ∙ alive) in absurd
+            (not-alive (v .2 (one .0) (one .1) (one .2 ∙ sym (v .1)))))
             (m .1)
-
-    -- the end of the run, from any part of it
-    to-end : (marks : Marks) (later₀ past₀ : List Event) → run ≡ later₀ ++ past₀ → Held marks past₀ → Held marks run
-    to-end marks later₀ past₀ split₀ inv = subst (λ (v : List Event). Held marks v) (sym split₀) (stays marks [] later₀ past₀ split₀ inv)
-
-    registered-at : (marks : Marks) (past₀ : List Event) → Held marks past₀ → registered s (stateAfter ours s past₀ .recorder) ≡ true
-        → Held (record { told = marks .told; reg = true; ts = marks .ts; places = marks .places }) past₀
-    registered-at marks past₀ inv is = registers s ok window (le-refl (window s)) clocks L true marks past₀ inv is
 
     abbrev registered-only : Marks
     registered-only = record { told = false; reg = true; ts = 0; places = noPlaces }
 
-    -- the recorder registered after the round had ended, or before
-    after : (ms later₀ past₀ : List Event) → run ≡ later₀ ++ past₀ → past₀ ≡ ms ++ (ending ∷ past) → registered s (stateAfter ours s past₀ .recorder) ≡ true
-        → Held (with-round registered-only) run
-    after ms later₀ past₀ split₀ same is =
-        let there = noted nothing (from-start (later ++ (ending ∷ [])) past past-split) in
-        let inv = stays (with-round nothing) later₀ ms (ending ∷ past) (rw same at split₀) there in
-        let inv₀ = subst (λ (v : List Event). Held (with-round nothing) v) (sym same) inv in
-        to-end (with-round registered-only) later₀ past₀ split₀ (registered-at (with-round nothing) past₀ inv₀ is)
+    abbrev Registered : List Event → Type 0
+    Registered past₀ = registered s (stateAfter ours s past₀ .recorder) ≡ true
 
-    before : (ms later₀ past₀ : List Event) → run ≡ later₀ ++ past₀ → past ≡ ms ++ past₀ → registered s (stateAfter ours s past₀ .recorder) ≡ true
+    -- the recorder registered after the round had ended, or before
+    after : (ms : List Event) → Part (ms ++ (ending ∷ past)) → Registered (ms ++ (ending ∷ past))
         → Held (with-round registered-only) run
-    before ms later₀ past₀ split₀ same is =
-        let inv₀ = registered-at nothing past₀ (from-start later₀ past₀ split₀) is in
-        let inv = stays registered-only (later ++ (ending ∷ [])) ms past₀ (past-split ∙ ap (λ (v : List Event). (later ++ (ending ∷ [])) ++ v) same) inv₀ in
-        to-end (with-round registered-only) later (ending ∷ past) split (noted registered-only (subst (λ (v : List Event). Held registered-only v) (sym same) inv))
+    after ms part is =
+        let inv = kept (with-round nothing) ms (ending ∷ past) part (noted nothing (held past here)) in
+        to-end (with-round registered-only) (ms ++ (ending ∷ past)) part
+        (registers s ok window (le-refl (window s)) clocks L true (with-round nothing) (ms ++ (ending ∷ past)) inv is)
+
+    before : (ms past₀ : List Event) → Part past₀ → past ≡ ms ++ past₀ → Registered past₀
+        → Held (with-round registered-only) run
+    before ms past₀ part same is =
+        let inv = registers s ok window (le-refl (window s)) clocks L true nothing past₀ (held past₀ part) is in
+        let inv′ = kept registered-only ms past₀ (subst Part same here) inv in
+        to-end (with-round registered-only) (ending ∷ past) (later, split)
+        (noted registered-only (subst (Held registered-only) (sym same) inv′))
 
     pub detected : RegisteredIn ours s run → (m : ℕ) × (answerTo ours s past ending ≡ saysOf "dead" m)
     detected r =
         says-dead registered-only refl
-        (⊎-elim (λ m. after (m .0) (r .0) (r .1) (r .2) (m .1) (r .3)) (λ m. earlier-or (m .0) (m .1))
+        (⊎-elim (λ m. after (m .0) (subst Part (m .1) part) (subst Registered (m .1) (r .3))) (λ m. earlier-or (m .0) (m .1))
         (ends-meet (r .0) (r .1) later (ending ∷ past) (sym (r .2) ∙ split)))
       where
+        part : Part (r .1)
+        part = (r .0, r .2)
+
         earlier-or : (ms : List Event) → ending ∷ past ≡ ms ++ r .1 → Held (with-round registered-only) run
-        earlier-or [] e = after [] (r .0) (r .1) (r .2) (sym e) (r .3)
-        earlier-or (m ∷ ms) e = before ms (r .0) (r .1) (r .2) (tail e) (r .3)
+        earlier-or [] e = after [] (later, split) (subst Registered (sym e) (r .3))
+        earlier-or (m ∷ ms) e = before ms (r .1) part (tail e) (r .3)
           where
             tail : ending ∷ past ≡ m ∷ (ms ++ r .1) → past ≡ ms ++ r .1
             tail e = cc

@@ -6,52 +6,49 @@ use mathlib.Core.Path.{_≡_, refl, sym, ap, _∙_, subst}
 use mathlib.Core.Bool.{Bool, true, false, _&&_, _||_, not, and-false}
 use mathlib.Core.List.{List, [], _∷_, _++_, map}
 use mathlib.Core.Logic.{_⊎_, inl, inr, ⊎-elim}
-use lib.ListN.{length, getD, List·getD-map}
+use lib.ListN.{length, List·getD-map}
 use lib.Seq.{getD-set-same}
-use borrow.Author.Tests.{leb-true, leb-false, le-ltb, lt-leb, eqb-true, eqb-false, eq-eqb, ne-eqb}
-use Rattle.words.specs.Tests.{if_then_else_, _=?_, _<?_, _≤?_}
+use borrow.Author.Tests.{leb-true, leb-false, le-ltb, lt-leb, eqb-true}
+use Rattle.words.specs.Tests.{_=?_, _≤?_}
 use Rattle.words.specs.Lists.{every, some}
-use Rattle.words.specs.Said.{first, _when_}
+use Rattle.words.specs.Said.{first}
 use Rattle.words.proofs.Booleans.{both-hold, not-both}
 use Rattle.settings.specs.declared.Settings.{Settings}
-use Rattle.settings.specs.Settings.{n, Δ, window, refusalOf, refusals}
-use Rattle.settings.specs.Quorums.{closes, _∋_}
+use Rattle.settings.specs.Settings.{n, Δ, window, refusalOf}
+use Rattle.quorums.specs.Quorums.{closes, _∋_}
 use Rattle.settings.proofs.Laws.{accepted, accepted-in-range, window-law}
-use Rattle.settings.proofs.Quorums.{quorums-grow}
+use Rattle.quorums.proofs.Quorums.{quorums-grow}
 use Rattle.messages.specs.declared.Status.{Status}
 use Rattle.messages.specs.declared.Message.the-variants.{CheckAck}
-use Rattle.messages.specs.Messages.{topReading, topCounter}
-use Rattle.messages.specs.Answers.{says, saysOf}
-use Rattle.messages.specs.Outcomes.{Outcome, _leaving_, badReading}
+use Rattle.messages.specs.Messages.{topReading}
+use Rattle.messages.specs.Outcomes.{Outcome}
 use Rattle.messages.proofs.Outcomes.{not-refused}
 use Rattle.standby_rules.specs.declared.Place.{Place}
 use Rattle.standby_rules.specs.declared.Standby.{Standby}
-use Rattle.standby_rules.specs.Standby.{Event as StandbyEvent, stepWithin, ackWithin, ackRefusals, hasForm, isOpen, lastReading, closed, unused, noPlaces, keptMarks, keeping, afterKeeping, atReading, verdict, greatest, saysDead}
-use Rattle.standby_rules.specs.Standby.Event.{begin, ack, poll}
+use Rattle.standby_rules.specs.Standby.{stepWithin, ackEvent, ackRefusals, isOpen, unused, noPlaces, keptMarks, keeping, verdict, greatest}
+use Rattle.standby_rules.specs.declared.StandbyEvent.{StandbyEvent}
+use Rattle.standby_rules.specs.declared.StandbyEvent.the-variants.{Begin as begin, Ack as ack, Poll as poll}
 use Rattle.standby_rules.specs.Claims.{Kept}
 use Rattle.standby_rules.proofs.Forms.{form-says, form-is-kept}
+use Rattle.standby_rules.proofs.Refusals.{Counted, ack-passes, each-ack}
 use Rattle.standby_rules.proofs.Rounds.{kept-stays}
-use Rattle.rack.specs.Clocks.{Clocks, reads}
-use Rattle.rack.specs.Runs.{ours, Event, time, inTime, delivered, onClock, perform, stateAfter, answerTo, isRun}
+use Rattle.standby_rules.proofs.Verdicts.{by-verdict}
+use Rattle.standby_rules.proofs.Ways.{Way, way}
+use Rattle.standby_rules.proofs.Ways.Way.{refusing, beginning, expiring, staying, closing, counting}
+use Rattle.rack.specs.Clocks.{Clocks}
+use Rattle.rack.specs.Runs.{ours, Event, time, delivered, onClock, perform, stateAfter, answerTo, isRun}
 use Rattle.rack.specs.Runs.Event.{atRecorder, atObserver, atStandby, crash, restart}
-use Rattle.rack.specs.Runs.Party.{recorder, standby, observer}
+use Rattle.rack.specs.Runs.Party.{standby, observer}
 use Rattle.rack.specs.Claims.{Ended, isBegin, noBegin, isRestart, noRestart, ackFrom, sixteen, ackers, OneExchangeEnds}
 use Rattle.rack.proofs.Clocks.{Reads, is-reading, upper}
-use Rattle.rack.proofs.History.{sent-has}
-use Rattle.rack.proofs.Ghost.{Behind}
-use Rattle.rack.proofs.Steps.{StandbyStep, standby-step}
-use Rattle.rack.proofs.Along.{nowOf, Adds, adds, nothing, Holds, from-start}
-use Rattle.rack.proofs.Rounds.{reading-fine, begin-opens, passes-on}
+use Rattle.rack.proofs.Invariant.{behind}
+use Rattle.rack.proofs.Along.{nowOf, Adds, adds, part-of, time-kept, nothing, Holds, from-start}
+use Rattle.rack.proofs.Rounds.{admits, begin-opens, no-begin}
 
 -- a verdict ends the round
 verdict-ends : (places : List Place) → Ended (verdict places)
-unfolding verdict
-verdict-ends places = by (greatest places =? 0) (some (saysDead (greatest places)) places)
-  where
-    by : (a b : Bool) → Ended (if a then says "unknown" else if b then saysOf "dead" (greatest places) else saysOf "alive" (greatest places))
-    by true b = inl refl
-    by false true = inr (greatest places, inl refl)
-    by false false = inr (greatest places, inr refl)
+verdict-ends places =
+    by-verdict Ended places (λ _. inl refl) (λ _ _. inr (greatest places, inl refl)) (λ _ _. inr (greatest places, inr refl))
 
 -- the mark of an observer among the sixteen
 unfoldable pub up-from : (a k : ℕ) → List ℕ
@@ -69,48 +66,32 @@ sixteen-marks : (f : ℕ → Bool) (x : ℕ) → map f sixteen ∋ x → f x ≡
 unfolding up-from
 sixteen-marks f x m = rw (zero-add x) at (marks-at f 16 0 x m)
 
-module _ (s : Settings) (ok : refusalOf s ≡ 0) (q : Standby) (r : ℕ) (e : StandbyEvent) where
-  -- an event in time that begins no round ends the open one or leaves it open
-  goes-on : (out : Outcome Standby) → StandbyStep (window s) s q r e out → (e ≡ begin → ⊥) → r - q .ts ≤ window s → isOpen q ≡ true
-      → Ended (out .answer) ⊎ ((isOpen (out .rec) ≡ true) × (out .rec .ts ≡ q .ts))
-  unfolding afterKeeping
-  goes-on out (inl a) other early is-open = inr (rw (a .0) is-open, ap (λ (q : Standby). q .ts) (a .0))
-  goes-on out (inr (inl a)) other early is-open = absurd (other (a .0))
-  goes-on out (inr (inr (inl a))) other early is-open = absurd (omega (arith, a .0, early))
-  goes-on out (inr (inr (inr (inl a)))) other early is-open = inr (rw (a .1) is-open, ap (λ (o : Outcome Standby). o .rec .ts) (a .1))
-  goes-on out (inr (inr (inr (inr a)))) other early is-open =
-      by (closes s (keptMarks (keeping (a .0) (a .1) (a .2) (q .places)))) (a .7)
-    where
-      by : (b : Bool)
-          → out
-          ≡ (if b then verdict (keeping (a .0) (a .1) (a .2) (q .places)) leaving closed r
-          else says "waiting" leaving record { «open_flag» = isOpen q; ts = q .ts; «last_reading» = r; places = keeping (a .0) (a .1) (a .2) (q .places) })
-          → Ended (out .answer) ⊎ ((isOpen (out .rec) ≡ true) × (out .rec .ts ≡ q .ts))
-      by true same = inl (rw same (verdict-ends (keeping (a .0) (a .1) (a .2) (q .places))))
-      by false same = inr (rw same is-open, ap (λ (o : Outcome Standby). o .rec .ts) same)
+-- an event in time that begins no round ends the open one or leaves it open
+goes-on : (w : ℕ) (s : Settings) (q : Standby) (r : ℕ) {e : StandbyEvent} {out : Outcome Standby} → Way w s q r e out
+    → (e ≡ begin → ⊥) → r - q .ts ≤ w → isOpen q ≡ true
+    → Ended (out .answer) ⊎ ((isOpen (out .rec) ≡ true) × (out .rec .ts ≡ q .ts))
+goes-on w s q r (refusing _ k) other early is-open = inr (is-open, refl)
+goes-on w s q r beginning other early is-open = absurd (other refl)
+goes-on w s q r (expiring _ late) other early is-open = absurd (omega (arith, late, early))
+goes-on w s q r (staying _ kept) other early is-open = inr (is-open, refl)
+goes-on w s q r (closing x cnt status _ _) other early is-open = inl (verdict-ends (keeping x cnt status (q .places)))
+goes-on w s q r (counting _ _ _ _) other early is-open = inr (is-open, refl)
 
 -- an ack of the open round, in time and not refused: it ends the round, or its observer's place is kept
-ack-counts : (s : Settings) (q : Standby) (r x cnt : ℕ) (status : Status) → first (ackRefusals s q r x (q .ts) cnt) ≡ 0 → length (q .places) ≡ 16 → x < 16 → r - q .ts ≤ window s
-    → Ended (ackWithin (window s) s q r x (q .ts) cnt status .answer) ⊎ Kept (ackWithin (window s) s q r x (q .ts) cnt status .rec .places) x
-unfolding ackWithin afterKeeping
-ack-counts s q r x cnt status fine sized there early =
-    rw (not-refused (ackRefusals s q r x (q .ts) cnt) q _ fine) (rw (le-ltb (window s) (r - q .ts) early) (by (getD (keptMarks (q .places)) x false) refl (closes s (keptMarks (keeping x cnt status (q .places))))))
-  where
-    by : (k : Bool) → getD (keptMarks (q .places)) x false ≡ k → (c : Bool)
-        → Ended
-        ((if k then says "waiting" leaving atReading r q
-        else if c then verdict (keeping x cnt status (q .places)) leaving closed r
-        else says "waiting" leaving record { «open_flag» = isOpen q; ts = q .ts; «last_reading» = r; places = keeping x cnt status (q .places) })
-        .answer)
-        ⊎ Kept
-        ((if k then says "waiting" leaving atReading r q
-        else if c then verdict (keeping x cnt status (q .places)) leaving closed r
-        else says "waiting" leaving record { «open_flag» = isOpen q; ts = q .ts; «last_reading» = r; places = keeping x cnt status (q .places) })
-        .rec .places)
-        x
-    by true k c = inr (sym (List·getD-map (λ place. place .kept) (q .places) x unused) ∙ k)
-    by false k true = inl (verdict-ends (keeping x cnt status (q .places)))
-    by false k false = inr (ap (λ (place : Place). place .kept) (getD-set-same (q .places) x (record { kept = true; counter = cnt; status = status }) unused (rw sized there)))
+ack-counts : (w : ℕ) (s : Settings) (q : Standby) (r x cnt : ℕ) (status : Status) → first (ackRefusals s q r x (q .ts) cnt) ≡ 0
+    → length (q .places) ≡ 16 → x < 16 → r - q .ts ≤ w
+    → Ended (stepWithin w s q r (ack x (q .ts) cnt status) .answer)
+    ⊎ Kept (stepWithin w s q r (ack x (q .ts) cnt status) .rec .places) x
+unfolding stepWithin
+ack-counts w s q r x cnt status fine sized there early =
+    rw (not-refused (ackRefusals s q r x (q .ts) cnt) q (ackEvent w s q r x cnt status) fine)
+    (each-ack w s q r x cnt status (λ out. Ended (out .answer) ⊎ Kept (out .rec .places) x)
+    (record {
+      late = λ late. absurd (not-both late (le-ltb w (r - q .ts) early));
+      second = λ _ kept. inr (sym (List·getD-map (λ place. place .kept) (q .places) x unused) ∙ kept);
+      closing = λ _ _ _. inl (verdict-ends (keeping x cnt status (q .places)));
+      waiting = λ _ _ _. inr (ap (λ (place : Place). place .kept) (getD-set-same (q .places) x _ unused (rw sized there)));
+    }))
 
 -- no ack after the limit is delivered by it
 none-after : (ts limit : ℕ) (e : Event) → limit < time e → (x : ℕ) → ackFrom x ts limit e ≡ false
@@ -118,15 +99,11 @@ unfolding time ackFrom
 none-after ts limit (atRecorder g r e) past x = refl
 none-after ts limit (atObserver y g r e) past x = refl
 none-after ts limit (atStandby g r begin) past x = refl
-none-after ts limit (atStandby g r (ack y ts′ cnt status)) past x = rw (lt-leb g limit past) (and-false ((y =? x) && (ts′ =? ts)))
+none-after ts limit (atStandby g r (ack y ts′ cnt status)) past x =
+    rw (lt-leb g limit past) (and-false ((y =? x) && (ts′ =? ts)))
 none-after ts limit (atStandby g r poll) past x = refl
 none-after ts limit (crash y g) past x = refl
 none-after ts limit (restart g) past x = refl
-
--- an ack of another round is none of this one
-other-round : (ts limit g r y ts′ cnt : ℕ) (status : Status) → (ts′ ≡ ts → ⊥) → (x : ℕ) → ackFrom x ts limit (atStandby g r (ack y ts′ cnt status)) ≡ false
-unfolding ackFrom
-other-round ts limit g r y ts′ cnt status other x = rw (ne-eqb ts′ ts other, and-false (y =? x))
 
 module _ (s : Settings) (ok : refusalOf s ≡ 0) (clocks : Clocks) (earlier : List Event) (g ts : ℕ) where
   abbrev limit : ℕ
@@ -158,16 +135,16 @@ module _ (s : Settings) (ok : refusalOf s ≡ 0) (clocks : Clocks) (earlier : Li
     pub short : closes s (keptMarks places) ≡ false
     pub acks : (x : ℕ) → some (ackFrom x ts limit) between ≡ true → Kept places x
     pub state : nowOf (since between) ≤ limit
-        → (isOpen (standbyAfter (since between)) ≡ true) × (standbyAfter (since between) .ts ≡ ts) × (standbyAfter (since between) .places ≡ places)
+        → (isOpen (standbyAfter (since between)) ≡ true) × (standbyAfter (since between) .ts ≡ ts)
+        × (standbyAfter (since between) .places ≡ places)
 
   -- common time has not fallen since the begin
   begun-before : (between : List Event) → isRun ours s clocks (since between) ≡ true → g ≤ nowOf (since between)
-  unfolding nowOf inTime time
+  unfolding nowOf time
   begun-before [] h = le-refl g
-  begun-before (e ∷ []) h = leb-true g (time e) (adds ours s clocks (since []) e h .in-time)
-  begun-before (e ∷ (d ∷ between)) h =
-      let a = adds ours s clocks (since (d ∷ between)) e h in
-      le-trans (begun-before (d ∷ between) (a .before)) (leb-true (time d) (time e) (a .in-time))
+  begun-before (e ∷ between) h =
+      let a = adds ours s clocks (since between) e h in
+      le-trans (begun-before between (a .before)) (time-kept (since between) e (a .in-time))
 
   module _ (whole : isRun ours s clocks (since []) ≡ true) where
     at-begin : Adds ours s clocks earlier (atStandby g ts begin)
@@ -175,16 +152,18 @@ module _ (s : Settings) (ok : refusalOf s ≡ 0) (clocks : Clocks) (earlier : Li
 
     begun : Reads s (clocks .standby) g ts
     unfolding onClock
-    begun = is-reading s (clocks .standby) g ts (both-hold (reads s (clocks .standby) g ts) (ts ≤? topReading) (at-begin .on-clock) .0)
+    begun = is-reading s (clocks .standby) g ts (at-begin .on-clock) .0
 
     ts-fine : ts ≤ topReading
     unfolding onClock
-    ts-fine = leb-true ts topReading (both-hold (reads s (clocks .standby) g ts) (ts ≤? topReading) (at-begin .on-clock) .1)
+    ts-fine = is-reading s (clocks .standby) g ts (at-begin .on-clock) .1
 
     at-first : Waiting []
     unfolding nowOf some
     at-first =
-        let is = begin-opens s ok window (le-refl (window s)) clocks 0 false nothing earlier (held earlier (at-begin .before)) g ts at-begin in
+        let is =
+        begin-opens s ok window (le-refl (window s)) clocks 0 false nothing earlier (held earlier (at-begin .before)) g ts
+        at-begin in
         record {
           places = noPlaces;
           short = rw is at (form-says s (standbyAfter (since [])) (held (since []) whole .standby-part .form) .below-quorum);
@@ -199,7 +178,8 @@ module _ (s : Settings) (ok : refusalOf s ≡ 0) (clocks : Clocks) (earlier : Li
       q = standbyAfter (since between)
 
       -- nothing of the round happens: the same is kept
-      as-before : (e : Event) → nowOf (since between) ≤ time e → ((x : ℕ) → ackFrom x ts limit e ≡ false) → (time e ≤ limit → standbyAfter (since (e ∷ between)) ≡ q)
+      as-before : (e : Event) → nowOf (since between) ≤ time e → ((x : ℕ) → ackFrom x ts limit e ≡ false)
+          → (time e ≤ limit → standbyAfter (since (e ∷ between)) ≡ q)
           → Waiting (e ∷ between)
       unfolding some nowOf
       as-before e later none same =
@@ -231,27 +211,81 @@ module _ (s : Settings) (ok : refusalOf s ≡ 0) (clocks : Clocks) (earlier : Li
             let gain = upper begun read since-begin (omega (arith, in-time, accepted s ok .b)) in
             omega (arith, its-ts, in-time, window-law s ok, accepted s ok .b)
 
-        module _ (e : StandbyEvent) (add : Adds ours s clocks (since between) (atStandby g′ r e)) (no-begin : e ≡ begin → ⊥) where
+        -- an ack of this round is not refused
+        ack-fine : (x cnt : ℕ) (status : Status) → Adds ours s clocks (since between) (atStandby g′ r (ack x ts cnt status))
+            → (first (ackRefusals s q r x (q .ts) cnt) ≡ 0) × (x < 16)
+        unfolding delivered
+        ack-fine x cnt status add =
+            let i = held (since between) run in
+            let a = behind s clocks 0 false i (observer x) (CheckAck ts cnt status) (add .arrived) .1 x refl in
+            let fine =
+            admits s ok window (le-refl (window s)) clocks 0 false nothing (since between) i g′ r (ack x ts cnt status) add in
+            let counted : Counted s q r x (q .ts) cnt =
+            record {
+              admitted = fine;
+              observer = a .is-observer;
+              counter = le-trans (a .known) (i .recorder-part .good .form .counter-top);
+              open-round = is-open;
+              its-ts = refl;
+            } in
+            let small = accepted-in-range s ok .n-greatest in
+            (ack-passes s q r x (q .ts) cnt counted (rw its-ts ts-fine), omega (arith, a .is-observer, small))
+
+        -- an ack of this round that came in time ends it, or its observer's place is kept
+        counts : (e : StandbyEvent) → Adds ours s clocks (since between) (atStandby g′ r e)
+            → Ended (stepWithin (window s) s q r e .answer)
+            ⊎ ((x : ℕ) → ackFrom x ts limit (atStandby g′ r e) ≡ true → Kept (stepWithin (window s) s q r e .rec .places) x)
+        unfolding ackFrom onClock
+        counts begin add = inr (λ x e. absurd (not-both e refl))
+        counts poll add = inr (λ x e. absurd (not-both e refl))
+        counts (ack y ts′ cnt status) add = of (ts′ =? ts) refl
+          where
+            of : (b : Bool) → (ts′ =? ts) ≡ b
+                → Ended (stepWithin (window s) s q r (ack y ts′ cnt status) .answer)
+                ⊎ ((x : ℕ) → ((y =? x) && (ts′ =? ts) && (g′ ≤? limit)) ≡ true
+                → Kept (stepWithin (window s) s q r (ack y ts′ cnt status) .rec .places) x)
+            of false e = inr (λ x is. absurd (not-both is (rw (e, and-false (y =? x)))))
+            of true e =
+                let same = eqb-true ts′ ts e in
+                let read = is-reading s (clocks .standby) g′ r (add .on-clock) .0 in
+                let add′ =
+                subst (λ (t : ℕ). Adds ours s clocks (since between) (atStandby g′ r (ack y t cnt status))) same add in
+                let fine = ack-fine y cnt status add′ in
+                let sized = held (since between) run .standby-part .sized in
+                let this : ts′ ≡ q .ts = same ∙ sym its-ts in
+                ⊎-elim (λ done. inl (rw this done)) (λ kept. inr (λ x is. rw (this, ← (named x is)) kept))
+                (ack-counts (window s) s q r y cnt status (fine .0) sized (fine .1) (early read))
+              where
+                named : (x : ℕ) → ((y =? x) && (ts′ =? ts) && (g′ ≤? limit)) ≡ true → y ≡ x
+                named x is =
+                    eqb-true y x (both-hold (y =? x) (ts′ =? ts) (both-hold ((y =? x) && (ts′ =? ts)) (g′ ≤? limit) is .0) .0)
+
+        module _ (e : StandbyEvent) (add : Adds ours s clocks (since between) (atStandby g′ r e)) (other : e ≡ begin → ⊥) where
           abbrev out : Outcome Standby
           out = stepWithin (window s) s q r e
 
           read : Reads s (clocks .standby) g′ r
           unfolding onClock
-          read = is-reading s (clocks .standby) g′ r (both-hold (reads s (clocks .standby) g′ r) (r ≤? topReading) (add .on-clock) .0)
+          read = is-reading s (clocks .standby) g′ r (add .on-clock) .0
 
           inv : Held (since between)
           inv = held (since between) run
 
           -- it ends the round, or the round goes on with all that was kept and what this event adds
-          at-standby : Ended (out .answer) ⊎ ((x : ℕ) → ackFrom x ts limit (atStandby g′ r e) ≡ true → Kept (out .rec .places) x)
-              → Ended (out .answer) ⊎ Waiting (atStandby g′ r e ∷ between)
+          at-standby : Ended (out .answer) ⊎ Waiting (atStandby g′ r e ∷ between)
           unfolding some stateAfter perform nowOf
-          at-standby counted = ⊎-elim inl (λ adds-it. ⊎-elim inl (λ still. inr (waits adds-it still)) (goes-on s ok q r e out (standby-step (window s) s q r e) no-begin (early read) is-open)) counted
+          at-standby =
+              ⊎-elim inl
+              (λ adds-it.
+              ⊎-elim inl (λ still. inr (waits adds-it still))
+              (goes-on (window s) s q r (way (window s) s q r e) other (early read) is-open))
+              (counts e add)
             where
               waits : ((x : ℕ) → ackFrom x ts limit (atStandby g′ r e) ≡ true → Kept (out .rec .places) x)
                   → (isOpen (out .rec) ≡ true) × (out .rec .ts ≡ q .ts) → Waiting (atStandby g′ r e ∷ between)
               waits adds-it still =
-                  let form = form-is-kept .by-steps (window s) s q r e (inv .standby-part .sized) (inv .standby-part .form) .0 in
+                  let form =
+                  form-is-kept .by-steps (window s) s q r e (inv .standby-part .sized) (inv .standby-part .form) .0 in
                   record {
                     places = out .rec .places;
                     short = form-says s (out .rec) form .below-quorum;
@@ -259,38 +293,12 @@ module _ (s : Settings) (ok : refusalOf s ≡ 0) (clocks : Clocks) (earlier : Li
                     state = λ h. (still .0, still .1 ∙ its-ts, refl);
                   }
                 where
-                  acks : (x : ℕ) (b : Bool) → ackFrom x ts limit (atStandby g′ r e) ≡ b → (b || some (ackFrom x ts limit) between) ≡ true → Kept (out .rec .places) x
+                  acks : (x : ℕ) (b : Bool) → ackFrom x ts limit (atStandby g′ r e) ≡ b
+                      → (b || some (ackFrom x ts limit) between) ≡ true → Kept (out .rec .places) x
                   acks x true is h = adds-it x is
                   acks x false is h =
                       let before : Kept (q .places) x = rw its-places (wait .acks x h) in
-                      ap (λ (place : Place). place .kept) (kept-stays (window s) s q r e x before no-begin (still .0)) ∙ before
-
-        -- an ack of this round is not refused
-        ack-fine : (x cnt : ℕ) (status : Status) → Adds ours s clocks (since between) (atStandby g′ r (ack x ts cnt status))
-            → (first (ackRefusals s q r x (q .ts) cnt) ≡ 0) × (x < 16)
-        unfolding delivered first refusalOf every
-        ack-fine x cnt status add =
-            let i = held (since between) run in
-            let m =
-            sent-has (λ m. Behind s clocks 0 false (i .gh) (stateAfter ours s (since between) .recorder .counter) (nowOf (since between)) (m .by) (m .what) (m .time)) (observer x) (CheckAck ts cnt status)
-            (stateAfter ours s (since between) .history) (i .history-part) (add .arrived) in
-            let a = m .1 in
-            let range = accepted-in-range s ok in
-            let small : cnt ≤ topCounter = le-trans (a .known) (i .recorder-part .good .form .counter-top) in
-            let ts-in : q .ts ≤ topReading = rw its-ts ts-fine in
-            let fine = reading-fine s ok window (le-refl (window s)) clocks 0 false nothing (since between) i g′ r (ack x ts cnt status) add in (
-              passes-on (refusals s)
-                  (3 when not (hasForm s q)
-                  ∷ 4 when (badReading (lastReading q) r || (topReading <? q .ts))
-                  ∷ 5 when (n s ≤? x)
-                  ∷ 6 when (topCounter <? cnt)
-                  ∷ 7 when not (isOpen q)
-                  ∷ 8 when not (q .ts =? q .ts)
-                  ∷ [])
-                  refl ok
-                  (rw (i .standby-part .form, fine, le-ltb topReading (q .ts) ts-in, lt-leb (n s) x (a .is-observer), le-ltb topCounter cnt small, is-open, eq-eqb (q .ts) (q .ts) refl)),
-              omega (arith, a .is-observer, range .n-greatest),
-            )
+                      ap (λ (place : Place). place .kept) (kept-stays (window s) s q r e x before other (still .0)) ∙ before
 
       -- ---- each kind of event
 
@@ -298,46 +306,20 @@ module _ (s : Settings) (ok : refusalOf s ≡ 0) (clocks : Clocks) (earlier : Li
       Next e = ((time e ≤ limit) × Ended (answerTo ours s (since between) e)) ⊎ Waiting (e ∷ between)
 
       later-than : (e : Event) → Adds ours s clocks (since between) e → nowOf (since between) ≤ time e
-      unfolding nowOf inTime
-      later-than e add = after (since between) (add .in-time)
-        where
-          after : (past : List Event) → inTime past e ≡ true → nowOf past ≤ time e
-          after [] h = omega arith
-          after (last ∷ past) h = leb-true (time last) (time e) h
+      later-than e add = time-kept (since between) e (add .in-time)
 
-      in-round : (e : Event) → Adds ours s clocks (since between) e → not (isBegin e) ≡ true → not (isRestart e) ≡ true → time e ≤ limit → Next e
-      unfolding time ackFrom isBegin isRestart stateAfter perform answerTo stepWithin onClock
-      in-round (atRecorder g′ r e) add nb nr h = inr (as-before (atRecorder g′ r e) (later-than (atRecorder g′ r e) add) (λ x. refl) (λ _. refl))
-      in-round (atObserver x g′ r e) add nb nr h = inr (as-before (atObserver x g′ r e) (later-than (atObserver x g′ r e) add) (λ x. refl) (λ _. refl))
+      in-round : (e : Event) → Adds ours s clocks (since between) e → not (isBegin e) ≡ true → not (isRestart e) ≡ true
+          → time e ≤ limit → Next e
+      unfolding time ackFrom isRestart stateAfter perform answerTo
+      in-round (atRecorder g′ r e) add nb nr h =
+          inr (as-before (atRecorder g′ r e) (later-than (atRecorder g′ r e) add) (λ x. refl) (λ _. refl))
+      in-round (atObserver x g′ r e) add nb nr h =
+          inr (as-before (atObserver x g′ r e) (later-than (atObserver x g′ r e) add) (λ x. refl) (λ _. refl))
       in-round (restart g′) add nb nr h = absurd (not-both nr refl)
       in-round (crash x g′) add nb nr h = inr (as-before (crash x g′) (later-than (crash x g′) add) (λ x. refl) (λ _. refl))
-      in-round (atStandby g′ r begin) add nb nr h = absurd (not-both nb refl)
-      in-round (atStandby g′ r poll) add nb nr h =
+      in-round (atStandby g′ r e) add nb nr h =
           ⊎-elim (λ done. inl (h, done)) inr
-          (at-standby g′ r (later-than (atStandby g′ r poll) add) h poll add (λ e. let z : _≡_ {A = ℕ} 0 1 = cc in omega arith) (inr (λ x e. absurd (not-both e refl))))
-      in-round (atStandby g′ r (ack y ts′ cnt status)) add nb nr h =
-          ⊎-elim (λ done. inl (h, done)) inr
-          (at-standby g′ r (later-than (atStandby g′ r (ack y ts′ cnt status)) add) h (ack y ts′ cnt status) add (λ e. let z : _≡_ {A = ℕ} 0 1 = cc in omega arith) (of (ts′ =? ts) refl))
-        where
-          of : (b : Bool) → (ts′ =? ts) ≡ b
-              → Ended (stepWithin (window s) s q r (ack y ts′ cnt status) .answer)
-              ⊎ ((x : ℕ) → ackFrom x ts limit (atStandby g′ r (ack y ts′ cnt status)) ≡ true → Kept (stepWithin (window s) s q r (ack y ts′ cnt status) .rec .places) x)
-          of false e = inr (λ x is. absurd (not-both is (other-round ts limit g′ r y ts′ cnt status (eqb-false ts′ ts e) x)))
-          of true e =
-              let same = eqb-true ts′ ts e in
-              let there = later-than (atStandby g′ r (ack y ts′ cnt status)) add in
-              let read = is-reading s (clocks .standby) g′ r (both-hold (reads s (clocks .standby) g′ r) (r ≤? topReading) (clock (add .on-clock)) .0) in
-              let add′ = subst (λ (t : ℕ). Adds ours s clocks (since between) (atStandby g′ r (ack y t cnt status))) same add in
-              let fine = ack-fine g′ r there h y cnt status add′ in
-              let counted = ack-counts s q r y cnt status (fine .0) (held (since between) run .standby-part .sized) (fine .1) (early g′ r there h read) in
-              let this : ts′ ≡ q .ts = same ∙ sym (its-ts g′ r there h) in
-              ⊎-elim (λ done. inl (rw this done)) (λ kept. inr (λ x is. rw (this, ← (named x is)) kept)) counted
-            where
-              clock : onClock s clocks (atStandby g′ r (ack y ts′ cnt status)) ≡ true → (reads s (clocks .standby) g′ r && (r ≤? topReading)) ≡ true
-              clock e = e
-
-              named : (x : ℕ) → ((y =? x) && (ts′ =? ts) && (g′ ≤? limit)) ≡ true → y ≡ x
-              named x is = eqb-true y x (both-hold (y =? x) (ts′ =? ts) (both-hold ((y =? x) && (ts′ =? ts)) (g′ ≤? limit) is .0) .0)
+          (at-standby g′ r (later-than (atStandby g′ r e) add) h e add (no-begin g′ r e nb))
 
       next : (e : Event) → Adds ours s clocks (since between) e → not (isBegin e) ≡ true → not (isRestart e) ≡ true → Next e
       next e add nb nr = by (time e ≤? limit) refl
@@ -347,7 +329,8 @@ module _ (s : Settings) (ok : refusalOf s ≡ 0) (clocks : Clocks) (earlier : Li
           by false h = inr (too-late e (later-than e add) (leb-false (time e) limit h))
 
     -- along the whole round
-    goes : (between : List Event) → isRun ours s clocks (since between) ≡ true → noBegin between ≡ true → noRestart between ≡ true
+    goes : (between : List Event) → isRun ours s clocks (since between) ≡ true → noBegin between ≡ true
+        → noRestart between ≡ true
         → EndedIn between ⊎ Waiting between
     unfolding every
     goes [] run nb nr = inr at-first
@@ -356,21 +339,19 @@ module _ (s : Settings) (ok : refusalOf s ≡ 0) (clocks : Clocks) (earlier : Li
         let n = both-hold (not (isBegin e)) (every (λ e. not (isBegin e)) between) nb in
         let k = both-hold (not (isRestart e)) (every (λ e. not (isRestart e)) between) nr in
         ⊎-elim (λ done. inl (e ∷ done .0, done .1, done .2, ap (λ (l : List Event). e ∷ l) (done .3), done .4, done .5))
-        (λ wait. ⊎-elim (λ done. inl ([], between, e, refl, done .0, done .1)) inr (next between (a .before) wait e a (n .0) (k .0)))
+        (λ wait. ⊎-elim (λ done. inl ([], between, e, refl, done .0, done .1)) inr
+        (next between (a .before) wait e a (n .0) (k .0)))
         (goes between (a .before) (n .1) (k .1))
-
-pub whole-of : (s : Settings) (clocks : Clocks) (between past : List Event) → isRun ours s clocks (between ++ past) ≡ true → isRun ours s clocks past ≡ true
-whole-of s clocks [] past h = h
-whole-of s clocks (e ∷ between) past h = whole-of s clocks between past (adds ours s clocks (between ++ past) e h .before)
 
 pub one-exchange-ends : OneExchangeEnds
 one-exchange-ends s ok clocks between earlier g ts run nb nr query =
     ⊎-elim (λ done. done) (λ wait. absurd (quorum wait))
-    (goes s ok clocks earlier g ts (whole-of s clocks between (atStandby g ts begin ∷ earlier) run) between run nb nr)
+    (goes s ok clocks earlier g ts (part-of ours s clocks between (atStandby g ts begin ∷ earlier) run) between run nb nr)
   where
     quorum : Waiting s ok clocks earlier g ts between → ⊥
     quorum wait =
         let grown =
         quorums-grow s (ackers ts (g + Δ s) between) (keptMarks (wait .places))
-        (λ x l m. List·getD-map (λ place. place .kept) (wait .places) x unused ∙ wait .acks x (sixteen-marks (λ x. some (ackFrom x ts (g + Δ s)) between) x m)) in
+        (λ x l m. List·getD-map (λ place. place .kept) (wait .places) x unused
+        ∙ wait .acks x (sixteen-marks (λ x. some (ackFrom x ts (g + Δ s)) between) x m)) in
         not-both (grown .1 query) (wait .short)

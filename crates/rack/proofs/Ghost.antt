@@ -10,7 +10,7 @@ use mathlib.Core.List.{List, [], _∷_}
 use mathlib.Core.Logic.{_⊎_, inl, ⊎-elim}
 use Rattle.settings.specs.declared.Settings.{Settings}
 use Rattle.settings.specs.Settings.{n, P, O, rounding}
-use Rattle.settings.specs.Quorums.{survives, closes, _∋_}
+use Rattle.quorums.specs.Quorums.{survives, closes, _∋_}
 use Rattle.messages.specs.declared.Status.{Status}
 use Rattle.messages.specs.declared.Status.the-variants.{Alive, Dead}
 use Rattle.messages.specs.declared.Message.{Message}
@@ -71,18 +71,11 @@ module _ (s : Settings) (clocks : Clocks) (L : ℕ) (p : Bool) where
 
   -- what stands behind each message of the history
   abbrev pub Behind : Ghost → (counter now : ℕ) → Party → Message → (t : ℕ) → Type 0
-  Behind gh counter now recorder (LeaseRequest c) t = (1 ≤ c) × (c ≤ counter) × (gh .S c ≡ t) × (t ≤ now)
-  Behind gh counter now recorder (LeaseGrant c) t = Unit {0}
-  Behind gh counter now recorder (Check ts) t = Unit {0}
-  Behind gh counter now recorder (CheckAck ts cnt status) t = Unit {0}
-  Behind gh counter now standby (LeaseRequest c) t = Unit {0}
-  Behind gh counter now standby (LeaseGrant c) t = Unit {0}
-  Behind gh counter now standby (Check ts) t = Reads s (clocks .standby) t ts × (t ≤ now)
-  Behind gh counter now standby (CheckAck ts cnt status) t = Unit {0}
-  Behind gh counter now (observer x) (LeaseRequest c) t = Unit {0}
-  Behind gh counter now (observer x) (LeaseGrant c) t = By (gh .reached) x c t × (t ≤ now) × (x < n s) × (1 ≤ c) × (c ≤ counter)
-  Behind gh counter now (observer x) (Check ts) t = Unit {0}
-  Behind gh counter now (observer x) (CheckAck ts cnt status) t = AckFact gh counter now x ts cnt status
+  Behind gh counter now by (LeaseRequest c) t = by ≡ recorder → (1 ≤ c) × (c ≤ counter) × (gh .S c ≡ t) × (t ≤ now)
+  Behind gh counter now by (LeaseGrant c) t =
+      (x : ℕ) → by ≡ observer x → By (gh .reached) x c t × (t ≤ now) × (x < n s) × (1 ≤ c) × (c ≤ counter)
+  Behind gh counter now by (Check ts) t = by ≡ standby → Reads s (clocks .standby) t ts × (t ≤ now)
+  Behind gh counter now by (CheckAck ts cnt status) t = (x : ℕ) → by ≡ observer x → AckFact gh counter now x ts cnt status
 
   -- the last store of observer x, of the request it has as its latest
   pub record StoreFact (gh : Ghost) (now top x : ℕ) (o : Observer) : Type 0 where
@@ -109,73 +102,71 @@ module _ (s : Settings) (clocks : Clocks) (L : ℕ) (p : Bool) where
     pub query : closes s set ≡ true
     pub low : (y : ℕ) → set ∋ y → (j v : ℕ) → By (gh .reached) y j v → v < gh .S c + P s + rounding s → j ≤ c
 
-  module _ {old : Ghost} {counter now : ℕ} {new : Ghost} {counter′ now′ : ℕ} (e : Extends old counter now new counter′ now′) where
-    -- nothing new was stored before a time that is past
-    nothing-new : (y j v t : ℕ) → t ≤ now → By (new .reached) y j v → v < t → By (old .reached) y j v
-    nothing-new y j v t h b l = ⊎-elim (λ o. o) (λ n. absurd (omega (arith, n, l, h))) (e .only-now y j v b)
+  module _ {old : Ghost} {counter now : ℕ} {new : Ghost} {counter′ now′ : ℕ} (e : Extends old counter now new counter′ now′)
+    where
+      -- nothing new was stored before a time that is past
+      nothing-new : (y j v t : ℕ) → t ≤ now → By (new .reached) y j v → v < t → By (old .reached) y j v
+      nothing-new y j v t h b l = ⊎-elim (λ o. o) (λ n. absurd (omega (arith, n, l, h))) (e .only-now y j v b)
 
-    pub ack-on : {x ts cnt : ℕ} {status : Status} → AckFact old counter now x ts cnt status → AckFact new counter′ now′ x ts cnt status
-    ack-on {x} {ts} {cnt} a =
-        record {
-          is-observer = a .is-observer;
-          said-at = a .said-at;
-          begun-at = a .begun-at;
-          begun = a .begun;
-          after = a .after;
-          past = le-trans (a .past) (e .later);
-          known = le-trans (a .known) (e .counts);
-          low = λ j v b l. a .low j v (nothing-new x j v (a .said-at) (a .past) b l) l;
-          dead = λ d l. rw (e .same-S cnt (a .known)) (a .dead d l);
-          alive = a .alive;
-        }
+      pub ack-on : {x ts cnt : ℕ} {status : Status} → AckFact old counter now x ts cnt status
+          → AckFact new counter′ now′ x ts cnt status
+      ack-on {x} {ts} {cnt} a =
+          record {
+            is-observer = a .is-observer;
+            said-at = a .said-at;
+            begun-at = a .begun-at;
+            begun = a .begun;
+            after = a .after;
+            past = le-trans (a .past) (e .later);
+            known = le-trans (a .known) (e .counts);
+            low = λ j v b l. a .low j v (nothing-new x j v (a .said-at) (a .past) b l) l;
+            dead = λ d l. rw (e .same-S cnt (a .known)) (a .dead d l);
+            alive = a .alive;
+          }
 
-    pub behind-on : (by : Party) (what : Message) (t : ℕ) → Behind old counter now by what t → Behind new counter′ now′ by what t
-    behind-on recorder (LeaseRequest c) t f = (f .0, le-trans (f .1) (e .counts), e .same-S c (f .1) ∙ f .2, le-trans (f .3) (e .later))
-    behind-on recorder (LeaseGrant c) t f = tt
-    behind-on recorder (Check ts) t f = tt
-    behind-on recorder (CheckAck ts cnt status) t f = tt
-    behind-on standby (LeaseRequest c) t f = tt
-    behind-on standby (LeaseGrant c) t f = tt
-    behind-on standby (Check ts) t f = (f .0, le-trans (f .1) (e .later))
-    behind-on standby (CheckAck ts cnt status) t f = tt
-    behind-on (observer x) (LeaseRequest c) t f = tt
-    behind-on (observer x) (LeaseGrant c) t f = (e .keeps x c t (f .0), le-trans (f .1) (e .later), f .2, f .3, le-trans (f .4) (e .counts))
-    behind-on (observer x) (Check ts) t f = tt
-    behind-on (observer x) (CheckAck ts cnt status) t f = ack-on f
+      pub behind-on : (by : Party) (what : Message) (t : ℕ) → Behind old counter now by what t
+          → Behind new counter′ now′ by what t
+      behind-on by (LeaseRequest c) t f = λ who.
+          let d = f who in (d .0, le-trans (d .1) (e .counts), e .same-S c (d .1) ∙ d .2, le-trans (d .3) (e .later))
+      behind-on by (LeaseGrant c) t f = λ x who.
+          let d = f x who in (e .keeps x c t (d .0), le-trans (d .1) (e .later), d .2, d .3, le-trans (d .4) (e .counts))
+      behind-on by (Check ts) t f = λ who. let d = f who in (d .0, le-trans (d .1) (e .later))
+      behind-on by (CheckAck ts cnt status) t f = λ x who. ack-on (f x who)
 
-    pub history-on : {history : List Sent} → All (λ m. Behind old counter now (m .by) (m .what) (m .time)) history
-        → All (λ m. Behind new counter′ now′ (m .by) (m .what) (m .time)) history
-    history-on a = all-map (λ m f. behind-on (m .by) (m .what) (m .time) f) a
+      pub history-on : {history : List Sent} → All (λ m. Behind old counter now (m .by) (m .what) (m .time)) history
+          → All (λ m. Behind new counter′ now′ (m .by) (m .what) (m .time)) history
+      history-on a = all-map (λ m f. behind-on (m .by) (m .what) (m .time) f) a
 
-    pub store-on : {top top′ x : ℕ} {o : Observer} → top ≤ top′ → o .latest ≤ counter → StoreFact old now top x o → StoreFact new now′ top′ x o
-    store-on {o = o} t k f =
-        record {
-          stored-at = f .stored-at;
-          reading = f .reading;
-          sent-before = rw (e .same-S (o .latest) k) (f .sent-before);
-          past = le-trans (f .past) (e .later);
-          read = f .read;
-          below = le-trans (f .below) t;
-          runs = f .runs;
-        }
+      pub store-on : {top top′ x : ℕ} {o : Observer} → top ≤ top′ → o .latest ≤ counter → StoreFact old now top x o
+          → StoreFact new now′ top′ x o
+      store-on {o = o} t k f =
+          record {
+            stored-at = f .stored-at;
+            reading = f .reading;
+            sent-before = rw (e .same-S (o .latest) k) (f .sent-before);
+            past = le-trans (f .past) (e .later);
+            read = f .read;
+            below = le-trans (f .below) t;
+            runs = f .runs;
+          }
 
-    pub ended-on : {c : ℕ} → c ≤ counter → EndedFact old c → EndedFact new c
-    ended-on {c} k f = (
-      f .0,
-      f .1,
-      λ y m. let g = f .2 y m in (g .0, rw (e .same-S c k) (g .1), e .keeps y (c + 1) (g .0) (g .2)),
-    )
+      pub ended-on : {c : ℕ} → c ≤ counter → EndedFact old c → EndedFact new c
+      ended-on {c} k f = (
+        f .0,
+        f .1,
+        λ y m. let g = f .2 y m in (g .0, rw (e .same-S c k) (g .1), e .keeps y (c + 1) (g .0) (g .2)),
+      )
 
-    pub doomed-on : {c : ℕ} → Doomed old counter now c → Doomed new counter′ now′ c
-    doomed-on {c} d =
-        let same = e .same-S c (d .known) in
-        record {
-          sent = d .sent;
-          known = le-trans (d .known) (e .counts);
-          over = rw same (le-trans (d .over) (e .later));
-          set = d .set;
-          query = d .query;
-          low = λ y m j v b l.
-              let l′ : v < old .S c + P s + rounding s = rw same at l in
-              d .low y m j v (nothing-new y j v (old .S c + P s + rounding s) (d .over) b l′) l′;
-        }
+      pub doomed-on : {c : ℕ} → Doomed old counter now c → Doomed new counter′ now′ c
+      doomed-on {c} d =
+          let same = e .same-S c (d .known) in
+          record {
+            sent = d .sent;
+            known = le-trans (d .known) (e .counts);
+            over = rw same (le-trans (d .over) (e .later));
+            set = d .set;
+            query = d .query;
+            low = λ y m j v b l.
+                let l′ : v < old .S c + P s + rounding s = rw same at l in
+                d .low y m j v (nothing-new y j v (old .S c + P s + rounding s) (d .over) b l′) l′;
+          }

@@ -3,7 +3,7 @@ pub mod Clocks
 pub mod History
 pub mod Freedoms
 pub mod Ghost
-pub mod Steps
+pub mod Ends
 pub mod Invariant
 pub mod AtRecorder
 pub mod AtObserver

@@ -5,7 +5,7 @@ use Prim.Native.Nat.{ℕ, zero, suc, _+_, _-_, _*_, _≤_, _<_, zero-le}
 use native.Mathlib.Omega.{arith}
 use native.Mathlib.Nat.{le-trans, le-refl, add-zero, zero-add, add-suc, suc-add}
 use mathlib.Core.Path.{_≡_, refl, sym, ap, _∙_}
-use mathlib.Core.Bool.{Bool, true, false, _&&_, _||_, not}
+use mathlib.Core.Bool.{Bool, true, false, _&&_, _||_, not, or-true}
 use mathlib.Core.List.{List, [], _∷_, _++_, map, append-assoc}
 use lib.ListN.{length, getD, set, take, replicate, length-set}
 use lib.Seq.{getD-set-same, getD-set-other}
@@ -13,42 +13,42 @@ use borrow.Author.Tests.{le-leb, le-ltb, lt-leb, lt-ltb, eq-eqb, ne-eqb, eqb-tru
 use Rattle.words.specs.Tests.{_=?_, _<?_, _≤?_}
 use Rattle.words.specs.Lists.{every, some, countWhere}
 use Rattle.words.specs.Said.{Said, first, _when_}
-use Rattle.words.specs.Said.Said.{refusal, gives}
 use Rattle.words.proofs.Conditions.{holds-both, holds-either}
+use Rattle.words.proofs.Said.{passes-on}
 use Rattle.words.proofs.Walks.{count-suc}
 use Rattle.settings.specs.declared.Settings.{Settings}
 use Rattle.settings.specs.Settings.{n, t, Δ, P, O, G, rounding, window, refusalOf, refusals}
-use Rattle.settings.specs.Quorums.{members, survives, closes, _∋_}
+use Rattle.quorums.specs.Quorums.{members, survives, closes, _∋_}
 use Rattle.settings.proofs.Laws.{accepted-in-range}
 use Rattle.messages.specs.declared.Message.{Message}
 use Rattle.messages.specs.declared.Message.the-variants.{LeaseRequest, LeaseGrant, Check, CheckAck}
 use Rattle.messages.specs.Messages.{topReading, topCounter}
-use Rattle.messages.specs.Answers.{Spoken, sends}
-use Rattle.messages.specs.Answers.Spoken.{message, wordWith}
+use Rattle.messages.specs.Answers.{Spoken, sends, sent, message}
 use Rattle.messages.specs.Outcomes.{Outcome, _leaving_, badReading}
 use Rattle.messages.proofs.Outcomes.{not-refused}
 use Rattle.recorder_rules.specs.declared.Recorder.{Recorder}
-use Rattle.recorder_rules.specs.Recorder.{fresh as freshRecorder, stepOf as recorderStep, tickOf, grantOf, stepRefusals, grantRefusals, accepted, lacking, lackingFrom, advanced, kept, tickEvent, grantEvent, higher, granted, registered}
-use Rattle.recorder_rules.specs.Recorder.Event.{tick, grant}
+use Rattle.recorder_rules.specs.Recorder.{fresh as freshRecorder, stepOf as recorderStep, stepRefusals, grantRefusals, accepted, lacking, lackingFrom, advanced, kept, tickEvent, grantEvent, higher, granted, registered}
+use Rattle.recorder_rules.specs.declared.RecorderEvent.the-variants.{Tick as tick, Grant as grant}
 use Rattle.recorder_rules.proofs.Grants.{granted-at, higher-least}
 use Rattle.recorder_rules.proofs.Ways.{Passes}
 use Rattle.observer_rules.specs.declared.Observer.{Observer}
-use Rattle.observer_rules.specs.Observer.{fresh as freshObserver, stepOf as observerStep, lastReading, atReading, hasForm, form, requestOf, requestRefusals, checkOf, checkRefusals, statusAt, stores, storeAll, store}
-use Rattle.observer_rules.specs.Observer.Event.{request, check}
-use Rattle.standby_rules.specs.Standby.{Event as StandbyEvent, stepWithin}
-use Rattle.standby_rules.specs.Standby.Event.{begin, ack}
+use Rattle.observer_rules.specs.Observer.{fresh as freshObserver, stepOf as observerStep, lastReading, atReading, hasForm, form, requestRefusals, checkRefusals, statusAt, answerOf, readingAfter, stores, storesOf, storeAll, store}
+use Rattle.observer_rules.specs.declared.ObserverEvent.the-variants.{Request as request, Check as check}
+use Rattle.standby_rules.specs.Standby.{stepWithin}
+use Rattle.standby_rules.proofs.Ways.{standby-sends}
+use Rattle.standby_rules.specs.declared.StandbyEvent.{StandbyEvent}
+use Rattle.standby_rules.specs.declared.StandbyEvent.the-variants.{Begin as begin, Ack as ack}
 use Rattle.rack.specs.Clocks.{Clock, Clocks, reads}
 use Rattle.rack.specs.Runs.{ours, Event, State, Party, Sent, Reading, time, partyKey, messageKey, sameNumbers, wasSent, put, posted, perform, inTime, readingsAt, rising, onClock, delivered, stateAfter, isRun}
 use Rattle.rack.specs.Runs.Event.{atRecorder, atObserver, atStandby}
 use Rattle.rack.specs.Runs.Party.{recorder, standby, observer}
 use Rattle.rack.specs.Claims.{isRequest, sentBy, arrivesWithin, prompt, isBegin, noBegin, isRestart, noRestart, ackFrom, sixteen, ackers}
 use Rattle.rack.specs.Found.{Asked, SomeRunTellsDead}
-use Rattle.rack.proofs.History.{All, none, more, all-map}
+use Rattle.rack.proofs.History.{All, none, more, all-map, posted-either}
 use Rattle.rack.proofs.Freedoms.{was-sent, joins}
-use Rattle.rack.proofs.Steps.{standby-sends}
 use Rattle.rack.proofs.AtObserver.{put-each}
 use Rattle.rack.proofs.Along.{adds, nothing, Holds, from-start}
-use Rattle.rack.proofs.Rounds.{passes-on, begins}
+use Rattle.rack.proofs.Rounds.{begins}
 use Rattle.rack.proofs.NeverRefused.{passes}
 use Rattle.rack.proofs.Sending.{posted-every}
 use Rattle.rack.proofs.Exchange.{up-from}
@@ -62,11 +62,13 @@ all-marks zero set has = refl
 all-marks (suc k) set has =
     rw (count-suc (λ mark. mark) false refl set k, has k (omega arith), all-marks k set (λ x h. has x (omega arith)))
 
-everyone : (s : Settings) → refusalOf s ≡ 0 → (set : List Bool) → ((x : ℕ) → x < n s → set ∋ x) → (survives s set ≡ true) × (closes s set ≡ true)
+everyone : (s : Settings) → refusalOf s ≡ 0 → (set : List Bool) → ((x : ℕ) → x < n s → set ∋ x)
+    → (survives s set ≡ true) × (closes s set ≡ true)
 unfolding survives closes members
 everyone s ok set has =
     let range = accepted-in-range s ok in
-    rw (all-marks (n s) set has) (le-leb (t s) (n s) (range .t-greatest), le-leb (n s - t s + 1) (n s) (omega (arith, range .t-greatest, range .t-least)))
+    let query : n s - t s + 1 ≤ n s = omega (arith, range .t-greatest, range .t-least) in
+    rw (all-marks (n s) set has) (le-leb (t s) (n s) (range .t-greatest), le-leb (n s - t s + 1) (n s) query)
 
 -- the mark of each of the sixteen
 mark-of : (f : ℕ → Bool) (k a x : ℕ) → x < k → getD (map f (up-from a k)) x false ≡ f (a + x)
@@ -109,30 +111,30 @@ unfolding every
 no-fall g who [] none = refl
 no-fall g who (e ∷ past) (more o os) = holds-both (one (readingsAt e) (o .read)) (no-fall g who past os)
   where
-    one : (readings : List Reading) → All (λ now. now .r ≤ g) readings → every (λ old. not (old .who =? who) || (old .r ≤? g)) readings ≡ true
+    one : (readings : List Reading) → All (λ now. now .r ≤ g) readings
+        → every (λ old. not (old .who =? who) || (old .r ≤? g)) readings ≡ true
     one [] none = refl
-    one (old ∷ others) (more l ls) = holds-both (holds-either (not (old .who =? who)) (λ _. le-leb (old .r) g l)) (one others ls)
+    one (old ∷ others) (more l ls) =
+        holds-both (holds-either (not (old .who =? who)) (λ _. le-leb (old .r) g l)) (one others ls)
 
 -- ---- histories
 
-or-true : (b : Bool) → (b || true) ≡ true
-or-true true = refl
-or-true false = refl
-
 -- what was sent stays so
-still-sent : (history : List Sent) (by : Party) (what : Message) (p : Party) (g : ℕ) (answer : Said Spoken) → wasSent history by what ≡ true
+still-sent : (history : List Sent) (by : Party) (what : Message) (p : Party) (g : ℕ) (answer : Said Spoken)
+    → wasSent history by what ≡ true
     → wasSent (posted p g answer history) by what ≡ true
-unfolding posted wasSent some
-still-sent history by what p g (refusal k) e = e
-still-sent history by what p g (gives (message m)) e = rw e (or-true ((partyKey p =? partyKey by) && sameNumbers (messageKey m) (messageKey what)))
-still-sent history by what p g (gives (wordWith w values)) e = e
+unfolding wasSent some
+still-sent history by what p g answer e =
+    posted-either (λ sent. wasSent sent by what ≡ true) p g answer history e
+    (λ m _. rw e (or-true ((partyKey p =? partyKey by) && sameNumbers (messageKey m) (messageKey what))))
 
 -- requests arrive at once, where all of them arrive at time 0
 at-once : (history : List Sent) (c : ℕ) → arrivesWithin 0 history c 0 ≡ true
 unfolding every
 at-once [] c = refl
 at-once (sent ∷ history) c =
-    holds-both (holds-either (not (sameNumbers (messageKey (sent .what)) (messageKey (LeaseRequest c)))) (λ _. le-leb 0 (sent .time + 0) zero-le)) (at-once history c)
+    holds-both (holds-either (not (sameNumbers (messageKey (sent .what)) (messageKey (LeaseRequest c))))
+    (λ _. le-leb 0 (sent .time + 0) zero-le)) (at-once history c)
 
 module _ (s : Settings) (ok : refusalOf s ≡ 0) where
   abbrev after : List Event → State
@@ -147,9 +149,11 @@ module _ (s : Settings) (ok : refusalOf s ≡ 0) where
   on-even : (g : ℕ) → g ≤ topReading → (reads s even g g && (g ≤? topReading)) ≡ true
   unfolding reads
   on-even g top =
-      holds-both (holds-both (le-leb (g + 0) g (omega arith)) (lt-ltb g (g + 0 + G s) (omega (arith, accepted-in-range s ok .G-least)))) (le-leb g topReading top)
+      holds-both (holds-both (le-leb (g + 0) g (omega arith))
+      (lt-ltb g (g + 0 + G s) (omega (arith, accepted-in-range s ok .G-least)))) (le-leb g topReading top)
 
-  joins-at : (g who : ℕ) (past : List Event) (e : Event) → IsRun past → All (Over g) past → time e ≡ g → readingsAt e ≡ record { who = who; r = g } ∷ []
+  joins-at : (g who : ℕ) (past : List Event) (e : Event) → IsRun past → All (Over g) past → time e ≡ g
+      → readingsAt e ≡ record { who = who; r = g } ∷ []
       → onClock s clocks e ≡ true → delivered (after past .history) e ≡ true → IsRun (e ∷ past) × All (Over g) (e ∷ past)
   unfolding rising every
   joins-at g who past e run over t only clock came = (
@@ -172,32 +176,38 @@ module _ (s : Settings) (ok : refusalOf s ≡ 0) where
         grants = grants;
       }
 
-  tick-once : Passes s freshRecorder 0 tick → recorderStep s freshRecorder 0 tick ≡ (sends (LeaseRequest 1) leaving registering (replicate 16 0))
-  unfolding recorderStep tickOf accepted lacking lackingFrom advanced kept tickEvent
+  tick-once : Passes s freshRecorder 0 tick
+      → recorderStep s freshRecorder 0 tick ≡ (sends (LeaseRequest 1) leaving registering (replicate 16 0))
+  unfolding recorderStep accepted lacking lackingFrom advanced kept tickEvent
   tick-once p = not-refused (stepRefusals s freshRecorder 0) freshRecorder (accepted s freshRecorder 0 (tickEvent s 0)) p
 
   grant-once : (grants : List ℕ) (x : ℕ) → Passes s (registering grants) 0 (grant x 1)
       → recorderStep s (registering grants) 0 (grant x 1) .rec ≡ registering (set grants x (higher (getD grants x 0) 1))
-  unfolding recorderStep grantOf accepted lacking lackingFrom advanced kept grantEvent
+  unfolding recorderStep accepted lacking lackingFrom advanced kept grantEvent
   grant-once grants x p =
-      ap (λ (o : Outcome Recorder). o .rec) (not-refused (grantRefusals s (registering grants) 0 x 1) (registering grants) (accepted s (registering grants) 0 (grantEvent s x 1)) p)
+      ap (λ (o : Outcome Recorder). o .rec)
+      (not-refused (grantRefusals s (registering grants) 0 x 1) (registering grants)
+      (accepted s (registering grants) 0 (grantEvent s x 1)) p)
       ∙ rw (lt-leb (P s) 0 (accepted-in-range s ok .P-least))
 
   request-once : (x : ℕ) → x < n s
-      → observerStep s freshObserver x 0 (request 1) ≡ (sends (LeaseGrant 1) leaving record { latest = 1; deadline = 0 + O s; «last_reading» = 0 })
-  unfolding observerStep requestOf stores storeAll store hasForm form first refusalOf every
+      → observerStep s freshObserver x 0 (request 1)
+      ≡ (sends (LeaseGrant 1) leaving record { latest = 1; deadline = 0 + O s; «last_reading» = 0 })
+  unfolding observerStep answerOf storesOf readingAfter stores storeAll store hasForm form first refusalOf every
   request-once x there =
       not-refused (requestRefusals s freshObserver x 0 1) freshObserver _
       (passes-on (refusals s)
-      (3 when not (hasForm s freshObserver) ∷ 4 when badReading 0 0 ∷ 5 when (n s ≤? x) ∷ 6 when ((1 =? 0) || (topCounter <? 1)) ∷ [])
+      (3 when not (hasForm s freshObserver) ∷ 4 when badReading 0 0 ∷ 5 when (n s ≤? x)
+      ∷ 6 when ((1 =? 0) || (topCounter <? 1)) ∷ [])
       refl ok (rw (lt-leb (n s) x there)))
 
   check-once : (o : Observer) (x g : ℕ) → x < n s → hasForm s o ≡ true → lastReading o ≡ 0 → g ≤ topReading
       → observerStep s o x g (check g) ≡ (sends (CheckAck g (o .latest) (statusAt o g)) leaving atReading g o)
-  unfolding observerStep checkOf first refusalOf every
+  unfolding observerStep answerOf storesOf readingAfter storeAll first refusalOf every
   check-once o x g there formed low top =
       not-refused (checkRefusals s o x g g) o _
-      (passes-on (refusals s) (3 when not (hasForm s o) ∷ 4 when (badReading (lastReading o) g || (topReading <? g)) ∷ 5 when (n s ≤? x) ∷ []) refl ok
+      (passes-on (refusals s) (3 when not (hasForm s o) ∷ 4 when (badReading (lastReading o) g || (topReading <? g))
+      ∷ 5 when (n s ≤? x) ∷ []) refl ok
       (rw (formed, low, le-ltb topReading g top, le-ltb g 0 zero-le, lt-leb (n s) x there)))
 
   -- ---- the first k observers get request 1, and their grants arrive
@@ -226,7 +236,9 @@ module _ (s : Settings) (ok : refusalOf s ≡ 0) where
   unfolding granting stateAfter perform time readingsAt onClock delivered sentBy isRequest every posted
   at-first =
       let one = joins-at 0 (partyKey recorder) [] (atRecorder 0 0 tick) empty none refl refl (on-even 0 zero-le) refl in
-      let p = passes s ok window (le-refl (window s)) clocks 0 false nothing [] (held [] empty) 0 0 tick (adds ours s clocks [] (atRecorder 0 0 tick) (one .0)) in
+      let p =
+      passes s ok window (le-refl (window s)) clocks 0 false nothing [] (held [] empty) 0 0 tick
+      (adds ours s clocks [] (atRecorder 0 0 tick) (one .0)) in
       let step = tick-once p in
       record {
         is-run = one .0;
@@ -246,24 +258,28 @@ module _ (s : Settings) (ok : refusalOf s ≡ 0) where
     abbrev asking : Event
     asking = atObserver k 0 0 (request 1)
 
-    granted-first : observerStep s (after (granting k) .observers k) k 0 (request 1) ≡ (sends (LeaseGrant 1) leaving record { latest = 1; deadline = 0 + O s; «last_reading» = 0 })
+    granted-first : observerStep s (after (granting k) .observers k) k 0 (request 1)
+        ≡ (sends (LeaseGrant 1) leaving record { latest = 1; deadline = 0 + O s; «last_reading» = 0 })
     granted-first = rw (f .fresh k (le-refl k)) (request-once k there)
 
     with-request : IsRun (asking ∷ granting k) × All (Over 0) (asking ∷ granting k)
     unfolding time readingsAt onClock delivered
-    with-request = joins-at 0 (partyKey (observer k)) (granting k) asking (f .is-run) (f .over) refl refl (on-even 0 zero-le) (f .asked)
+    with-request =
+        joins-at 0 (partyKey (observer k)) (granting k) asking (f .is-run) (f .over) refl refl (on-even 0 zero-le) (f .asked)
 
     with-grant : IsRun (granting (suc k)) × All (Over 0) (granting (suc k))
     unfolding granting time readingsAt onClock delivered stateAfter perform posted
     with-grant =
-        joins-at 0 (partyKey recorder) (asking ∷ granting k) (atRecorder 0 0 (grant k 1)) (with-request .0) (with-request .1) refl refl (on-even 0 zero-le)
+        joins-at 0 (partyKey recorder) (asking ∷ granting k) (atRecorder 0 0 (grant k 1)) (with-request .0) (with-request .1)
+        refl refl (on-even 0 zero-le)
         (rw granted-first (was-sent _ (observer k) (LeaseGrant 1) ([], after (granting k) .history, 0, refl)))
 
     places-after : after (granting (suc k)) .recorder ≡ registering (set (f .grants) k (higher (getD (f .grants) k 0) 1))
     unfolding granting stateAfter perform
     places-after =
         let p =
-        passes s ok window (le-refl (window s)) clocks 0 false nothing (asking ∷ granting k) (held (asking ∷ granting k) (with-request .0)) 0 0 (grant k 1)
+        passes s ok window (le-refl (window s)) clocks 0 false nothing (asking ∷ granting k)
+        (held (asking ∷ granting k) (with-request .0)) 0 0 (grant k 1)
         (adds ours s clocks (asking ∷ granting k) (atRecorder 0 0 (grant k 1)) (with-grant .0)) in
         rw (f .is-recorder) (grant-once (f .grants) k (rw (f .is-recorder) at p))
 
@@ -272,7 +288,8 @@ module _ (s : Settings) (ok : refusalOf s ≡ 0) where
       where
         by : (b : Bool) → (x =? k) ≡ b → 1 ≤ getD (set (f .grants) k (higher (getD (f .grants) k 0) 1)) x 0
         by true e =
-            rw (eqb-true x k e, getD-set-same (f .grants) k (higher (getD (f .grants) k 0) 1) 0 (omega (arith, f .places, there, accepted-in-range s ok .n-greatest)))
+            let place : k < length (f .grants) = omega (arith, f .places, there, accepted-in-range s ok .n-greatest) in
+            rw (eqb-true x k e, getD-set-same (f .grants) k (higher (getD (f .grants) k 0) 1) 0 place)
             (higher-least (getD (f .grants) k 0) 1 .1)
         by false e =
             let other = eqb-false x k e in
@@ -285,14 +302,17 @@ module _ (s : Settings) (ok : refusalOf s ≡ 0) where
     low-after : (y : ℕ) → lastReading (after (granting (suc k)) .observers y) ≡ 0
     unfolding granting stateAfter perform
     low-after =
-        put-each (λ y o. lastReading o ≡ 0) (after (granting k) .observers) k (observerStep s (after (granting k) .observers k) k 0 (request 1) .rec)
+        put-each (λ y o. lastReading o ≡ 0) (after (granting k) .observers) k
+        (observerStep s (after (granting k) .observers k) k 0 (request 1) .rec)
         (rw granted-first) (λ y other. f .low y)
 
     early-after : sentBy 0 (after (granting (suc k)) .history) ≡ true
     unfolding granting stateAfter perform sentBy
     early-after =
-        posted-every (λ sent. not (isRequest (sent .what)) || (sent .time ≤? 0)) recorder 0 _ (after (asking ∷ granting k) .history)
-        (posted-every (λ sent. not (isRequest (sent .what)) || (sent .time ≤? 0)) (observer k) 0 _ (after (granting k) .history) (f .early) (λ m q. or-true (not (isRequest m))))
+        posted-every (λ sent. not (isRequest (sent .what)) || (sent .time ≤? 0)) recorder 0 _
+        (after (asking ∷ granting k) .history)
+        (posted-every (λ sent. not (isRequest (sent .what)) || (sent .time ≤? 0)) (observer k) 0 _
+        (after (granting k) .history) (f .early) (λ m q. or-true (not (isRequest m))))
         (λ m q. or-true (not (isRequest m)))
 
     first-more : First (suc k)
@@ -301,7 +321,9 @@ module _ (s : Settings) (ok : refusalOf s ≡ 0) where
         record {
           is-run = with-grant .0;
           over = with-grant .1;
-          asked = still-sent _ recorder (LeaseRequest 1) recorder 0 _ (still-sent _ recorder (LeaseRequest 1) (observer k) 0 _ (f .asked));
+          asked =
+              still-sent _ recorder (LeaseRequest 1) recorder 0 _
+              (still-sent _ recorder (LeaseRequest 1) (observer k) 0 _ (f .asked));
           early = early-after;
           grants = set (f .grants) k (higher (getD (f .grants) k 0) 1);
           places = length-set (f .grants) k (higher (getD (f .grants) k 0) 1) ∙ f .places;
@@ -340,7 +362,8 @@ module _ (s : Settings) (ok : refusalOf s ≡ 0) where
 
   -- the reply of observer k
   reply : (k : ℕ) → List Event → Event
-  reply k past = atStandby bound bound (ack k bound (after past .observers k .latest) (statusAt (after past .observers k) bound))
+  reply k past =
+      atStandby bound bound (ack k bound (after past .observers k .latest) (statusAt (after past .observers k) bound))
 
   replying : ℕ → List Event
   replying zero = []
@@ -355,7 +378,7 @@ module _ (s : Settings) (ok : refusalOf s ≡ 0) where
 
   -- what the standby sends is no request
   no-request : (past : List Event) (e : StandbyEvent) (m : Message)
-      → stepWithin (window s) s (after past .standby) bound e .answer ≡ sends m
+      → sent (stepWithin (window s) s (after past .standby) bound e .answer) ≡ message m
       → (not (isRequest m) || (bound ≤? 0)) ≡ true
   unfolding isRequest
   no-request past e m q = rw (standby-sends (window s) s (after past .standby) bound e m q)
@@ -366,7 +389,8 @@ module _ (s : Settings) (ok : refusalOf s ≡ 0) where
       let f = granted-all in
       let past = granting (n s) in
       let one =
-      joins-at bound (partyKey standby) past (atStandby bound bound begin) (f .is-run) (all-map (still-over 0 bound zero-le) (f .over)) refl refl
+      joins-at bound (partyKey standby) past (atStandby bound bound begin) (f .is-run)
+      (all-map (still-over 0 bound zero-le) (f .over)) refl refl
       (on-even bound in-range) refl in
       let step =
       begins s ok window (le-refl (window s)) clocks 0 false nothing past (held past (f .is-run)) bound bound
@@ -375,7 +399,9 @@ module _ (s : Settings) (ok : refusalOf s ≡ 0) where
         is-run = one .0;
         over = one .1;
         asked = rw step (was-sent _ standby (Check bound) ([], after past .history, bound, refl));
-        early = posted-every (λ sent. not (isRequest (sent .what)) || (sent .time ≤? 0)) standby bound _ (after past .history) (f .early) (no-request past begin);
+        early =
+            posted-every (λ sent. not (isRequest (sent .what)) || (sent .time ≤? 0)) standby bound _ (after past .history)
+            (f .early) (no-request past begin);
         low = λ y h. f .low y;
       }
 
@@ -389,18 +415,22 @@ module _ (s : Settings) (ok : refusalOf s ≡ 0) where
     abbrev checking : Event
     checking = atObserver k bound bound (check bound)
 
-    answered : observerStep s o k bound (check bound) ≡ (sends (CheckAck bound (o .latest) (statusAt o bound)) leaving atReading bound o)
+    answered : observerStep s o k bound (check bound)
+        ≡ (sends (CheckAck bound (o .latest) (statusAt o bound)) leaving atReading bound o)
     answered = check-once o k bound there (held past (f .is-run) .observer-part k .form) (f .low k (le-refl k)) in-range
 
     with-check : IsRun (checking ∷ past) × All (Over bound) (checking ∷ past)
     unfolding time readingsAt onClock delivered
-    with-check = joins-at bound (partyKey (observer k)) past checking (f .is-run) (f .over) refl refl (on-even bound in-range) (f .asked)
+    with-check =
+        joins-at bound (partyKey (observer k)) past checking (f .is-run) (f .over) refl refl (on-even bound in-range) (f .asked)
 
     with-ack : IsRun (reply k past ∷ (checking ∷ past)) × All (Over bound) (reply k past ∷ (checking ∷ past))
     unfolding reply time readingsAt onClock delivered stateAfter perform posted
     with-ack =
-        joins-at bound (partyKey standby) (checking ∷ past) (reply k past) (with-check .0) (with-check .1) refl refl (on-even bound in-range)
-        (rw answered (was-sent _ (observer k) (CheckAck bound (o .latest) (statusAt o bound)) ([], after past .history, bound, refl)))
+        joins-at bound (partyKey standby) (checking ∷ past) (reply k past) (with-check .0) (with-check .1) refl refl
+        (on-even bound in-range)
+        (rw answered (was-sent _ (observer k) (CheckAck bound (o .latest) (statusAt o bound))
+        ([], after past .history, bound, refl)))
 
     early-check : sentBy 0 (after (checking ∷ past) .history) ≡ true
     unfolding stateAfter perform sentBy posted isRequest every
@@ -409,7 +439,8 @@ module _ (s : Settings) (ok : refusalOf s ≡ 0) where
     early-ack : sentBy 0 (after (reply k past ∷ (checking ∷ past)) .history) ≡ true
     unfolding reply stateAfter perform sentBy
     early-ack =
-        posted-every (λ sent. not (isRequest (sent .what)) || (sent .time ≤? 0)) standby bound _ (after (checking ∷ past) .history) early-check
+        posted-every (λ sent. not (isRequest (sent .what)) || (sent .time ≤? 0)) standby bound _
+        (after (checking ∷ past) .history) early-check
         (no-request (checking ∷ past) (ack k bound (o .latest) (statusAt o bound)))
 
     low-then : (y : ℕ) → suc k ≤ y → lastReading (after (reply k past ∷ (checking ∷ past)) .observers y) ≡ 0
@@ -422,7 +453,9 @@ module _ (s : Settings) (ok : refusalOf s ≡ 0) where
         record {
           is-run = with-ack .0;
           over = with-ack .1;
-          asked = still-sent _ standby (Check bound) standby bound _ (still-sent _ standby (Check bound) (observer k) bound _ (f .asked));
+          asked =
+              still-sent _ standby (Check bound) standby bound _
+              (still-sent _ standby (Check bound) (observer k) bound _ (f .asked));
           early = early-ack;
           low = low-then;
         }
@@ -461,7 +494,8 @@ module _ (s : Settings) (ok : refusalOf s ≡ 0) where
   came x (suc k) h = by (x =? k) refl (came x k)
     where
       by : (b : Bool) → (x =? k) ≡ b → (x < k → some (ackFrom x bound (bound + Δ s)) (replying k) ≡ true)
-          → (((k =? x) && (bound =? bound) && (bound ≤? bound + Δ s)) || some (ackFrom x bound (bound + Δ s)) (replying k)) ≡ true
+          → (((k =? x) && (bound =? bound) && (bound ≤? bound + Δ s)) || some (ackFrom x bound (bound + Δ s)) (replying k))
+          ≡ true
       by true e rest =
           rw (eq-eqb k x (sym (eqb-true x k e)), eq-eqb bound bound refl, le-leb bound (bound + Δ s) (omega arith))
       by false e rest =
@@ -488,7 +522,8 @@ module _ (s : Settings) (ok : refusalOf s ≡ 0) where
         replies =
             everyone s ok (ackers bound (bound + Δ s) (replying (n s)))
             (λ x h.
-            sixteen-of (λ x. some (ackFrom x bound (bound + Δ s)) (replying (n s))) x (omega (arith, h, accepted-in-range s ok .n-greatest))
+            sixteen-of (λ x. some (ackFrom x bound (bound + Δ s)) (replying (n s))) x
+            (omega (arith, h, accepted-in-range s ok .n-greatest))
             ∙ came x (n s) h)
             .1;
       }

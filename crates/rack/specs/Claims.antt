@@ -10,15 +10,16 @@ use Rattle.words.specs.Lists.{every, some}
 use Rattle.words.specs.Said.{Said}
 use Rattle.settings.specs.declared.Settings.{Settings}
 use Rattle.settings.specs.Settings.{Δ, O, rounding, window, refusalOf}
-use Rattle.settings.specs.Quorums.{closes}
+use Rattle.quorums.specs.Quorums.{closes}
 use Rattle.messages.specs.declared.Message.{Message}
 use Rattle.messages.specs.declared.Message.the-variants.{LeaseRequest, LeaseGrant, Check, CheckAck}
 use Rattle.messages.specs.Messages.{hasForm}
 use Rattle.messages.specs.Answers.{Spoken, isRefusal, says, saysOf}
-use Rattle.recorder_rules.specs.Recorder.{Event as RecorderEvent, registered}
-use Rattle.recorder_rules.specs.Recorder.Event.{drive}
-use Rattle.observer_rules.specs.Observer.Event.{request, cut, check}
-use Rattle.standby_rules.specs.Standby.Event.{begin, ack, poll}
+use Rattle.recorder_rules.specs.Recorder.{registered}
+use Rattle.recorder_rules.specs.declared.RecorderEvent.{RecorderEvent}
+use Rattle.recorder_rules.specs.declared.RecorderEvent.the-variants.{Drive as drive}
+use Rattle.observer_rules.specs.declared.ObserverEvent.the-variants.{Request as request, Cut as cut, Check as check}
+use Rattle.standby_rules.specs.declared.StandbyEvent.the-variants.{Begin as begin, Ack as ack, Poll as poll}
 use Rattle.rack.specs.Clocks.{Clocks}
 use Rattle.rack.specs.Runs.{Rules, oursWithin, ours, Event, time, Sent, messageKey, sameNumbers, stateAfter, answerTo, isRun}
 use Rattle.rack.specs.Runs.Event.{atRecorder, atObserver, atStandby, crash, restart}

@@ -1,4 +1,4 @@
--- Document 01, "Clocks": one common time, and each party's clock ahead of it or behind it by a fixed offset, rounded down by
+-- Rule 9.1: one common time, and each party's clock ahead of it or behind it by a fixed offset, rounded down by
 -- less than the grain.
 use Prim.Native.Nat.{ℕ, _+_}
 use mathlib.Core.Bool.{Bool, _&&_}
@@ -14,7 +14,7 @@ pub record Clock : Type 0 where
   pub at : ℕ → ℕ
   pub steady : (g span : ℕ) → at (g + span) ≡ at g + span
 
--- "A party's reading r at time g .. meets r ≤ g + d < r + G"
+-- r is a reading of the clock at time g: not above it, and less than G below it
 unfoldable pub reads : Settings → Clock → (g r : ℕ) → Bool
 reads s clock g r = (r + clock .behind ≤? clock .at g) && (clock .at g <? r + clock .behind + G s)
 

@@ -6,16 +6,17 @@ use mathlib.Core.Path.{_≡_}
 use Rattle.words.specs.Lists.{every}
 use Rattle.settings.specs.declared.Settings.{Settings}
 use Rattle.settings.specs.Settings.{Δ, O, rounding, refusalOf}
-use Rattle.settings.specs.Quorums.{closes}
+use Rattle.quorums.specs.Quorums.{closes}
 use Rattle.messages.specs.Answers.{saysOf}
-use Rattle.standby_rules.specs.Standby.Event.{begin}
+use Rattle.standby_rules.specs.declared.StandbyEvent.the-variants.{Begin as begin}
 use Rattle.rack.specs.Clocks.{Clocks}
 use Rattle.rack.specs.Runs.{Rules, ours, Event, time, stateAfter, answerTo, isRun}
 use Rattle.rack.specs.Runs.Event.{atStandby}
 use Rattle.rack.specs.Claims.{RegisteredIn, sentBy, prompt, noBegin, noRestart, ackers}
 
 -- A run, and a query in it that is begun at time g, reading ts, with the events `between` behind it.
-pub record Asked (rules : Rules) (s : Settings) (clocks : Clocks) (run : List Event) (f D : ℕ) (later between earlier : List Event) (g ts : ℕ) : Type 0 where
+pub record Asked (rules : Rules) (s : Settings) (clocks : Clocks) (run : List Event) (f D : ℕ)
+    (later between earlier : List Event) (g ts : ℕ) : Type 0 where
   pub is-run : isRun rules s clocks run ≡ true
   -- the recorder had registered
   pub registered : RegisteredIn rules s run

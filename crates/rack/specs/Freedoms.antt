@@ -10,12 +10,12 @@ use Rattle.messages.specs.declared.Status.{Status}
 use Rattle.messages.specs.declared.Message.{Message}
 use Rattle.messages.specs.declared.Message.the-variants.{LeaseRequest, LeaseGrant, Check, CheckAck}
 use Rattle.messages.specs.Messages.{topReading}
-use Rattle.recorder_rules.specs.Recorder.{Event as RecorderEvent}
-use Rattle.recorder_rules.specs.Recorder.Event.{tick, grant, drive}
-use Rattle.observer_rules.specs.Observer.{Event as ObserverEvent}
-use Rattle.observer_rules.specs.Observer.Event.{request, cut, check}
-use Rattle.standby_rules.specs.Standby.{Event as StandbyEvent}
-use Rattle.standby_rules.specs.Standby.Event.{begin, ack, poll}
+use Rattle.recorder_rules.specs.declared.RecorderEvent.{RecorderEvent}
+use Rattle.recorder_rules.specs.declared.RecorderEvent.the-variants.{Tick as tick, Grant as grant, Drive as drive}
+use Rattle.observer_rules.specs.declared.ObserverEvent.{ObserverEvent}
+use Rattle.observer_rules.specs.declared.ObserverEvent.the-variants.{Request as request, Cut as cut, Check as check}
+use Rattle.standby_rules.specs.declared.StandbyEvent.{StandbyEvent}
+use Rattle.standby_rules.specs.declared.StandbyEvent.the-variants.{Begin as begin, Ack as ack, Poll as poll}
 use Rattle.rack.specs.Clocks.{Clock, Clocks}
 use Rattle.rack.specs.Runs.{Rules, Event, Party, Sent, time, stateAfter, isRun}
 use Rattle.rack.specs.Runs.Event.{atRecorder, atObserver, atStandby, crash, restart}
@@ -24,7 +24,8 @@ use Rattle.rack.specs.Runs.Party.{recorder, standby, observer}
 -- the party has sent this message, at some time: it stands somewhere in the history
 abbrev pub StandsIn : List Sent → (by : Party) → (what : Message) → Type 0
 StandsIn history by what =
-    (newer : List Sent) × (older : List Sent) × (g : ℕ) × (history ≡ newer ++ (record { by = by; what = what; time = g } ∷ older))
+    (newer : List Sent) × (older : List Sent) × (g : ℕ)
+    × (history ≡ newer ++ (record { by = by; what = what; time = g } ∷ older))
 
 module _ (rules : Rules) (s : Settings) (clocks : Clocks) (past : List Event) where
   -- not before the last event
@@ -79,9 +80,11 @@ module _ (rules : Rules) (s : Settings) (clocks : Clocks) (past : List Event) wh
     pub grant-arrives : (x g r j : ℕ) → RecorderReads g r → WasSent (observer x) (LeaseGrant j)
         → MayHappen (atRecorder g r (grant x j))
     -- an ack of observer x at the standby, as one of x.
-    pub ack-arrives : (x g r ts cnt : ℕ) (status : Status) → StandbyReads g r → WasSent (observer x) (CheckAck ts cnt status) → MayHappen (atStandby g r (ack x ts cnt status))
+    pub ack-arrives : (x g r ts cnt : ℕ) (status : Status) → StandbyReads g r → WasSent (observer x) (CheckAck ts cnt status)
+        → MayHappen (atStandby g r (ack x ts cnt status))
 
 -- under all rules and settings, with all clocks, behind every run
 abbrev pub AnythingMayHappen : Type 0
 AnythingMayHappen =
-    (rules : Rules) (s : Settings) (clocks : Clocks) (past : List Event) → isRun rules s clocks past ≡ true → Free rules s clocks past
+    (rules : Rules) (s : Settings) (clocks : Clocks) (past : List Event) → isRun rules s clocks past ≡ true
+    → Free rules s clocks past

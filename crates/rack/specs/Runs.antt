@@ -15,18 +15,20 @@ use Rattle.messages.specs.declared.Status.the-variants.{Alive, Dead}
 use Rattle.messages.specs.declared.Message.{Message}
 use Rattle.messages.specs.declared.Message.the-variants.{LeaseRequest, LeaseGrant, Check, CheckAck}
 use Rattle.messages.specs.Messages.{topReading}
-use Rattle.messages.specs.Answers.{Spoken, refuses}
-use Rattle.messages.specs.Answers.Spoken.{message, wordWith}
+use Rattle.messages.specs.Answers.{Spoken, giving, nothing, message, refuses}
 use Rattle.messages.specs.Outcomes.{Outcome}
 use Rattle.recorder_rules.specs.declared.Recorder.{Recorder}
-use Rattle.recorder_rules.specs.Recorder.{Event as RecorderEvent, stepOf as recorderStep, fresh as freshRecorder}
-use Rattle.recorder_rules.specs.Recorder.Event.{tick, grant, drive}
+use Rattle.recorder_rules.specs.Recorder.{stepOf as recorderStep, fresh as freshRecorder}
+use Rattle.recorder_rules.specs.declared.RecorderEvent.{RecorderEvent}
+use Rattle.recorder_rules.specs.declared.RecorderEvent.the-variants.{Tick as tick, Grant as grant, Drive as drive}
 use Rattle.observer_rules.specs.declared.Observer.{Observer}
-use Rattle.observer_rules.specs.Observer.{Event as ObserverEvent, stepOf as observerStep, restartOf, fresh as freshObserver}
-use Rattle.observer_rules.specs.Observer.Event.{request, cut, check}
+use Rattle.observer_rules.specs.Observer.{stepOf as observerStep, restartOf, fresh as freshObserver}
+use Rattle.observer_rules.specs.declared.ObserverEvent.{ObserverEvent}
+use Rattle.observer_rules.specs.declared.ObserverEvent.the-variants.{Request as request, Cut as cut, Check as check}
 use Rattle.standby_rules.specs.declared.Standby.{Standby}
-use Rattle.standby_rules.specs.Standby.{Event as StandbyEvent, stepWithin, fresh as freshStandby}
-use Rattle.standby_rules.specs.Standby.Event.{begin, ack, poll}
+use Rattle.standby_rules.specs.Standby.{stepWithin, fresh as freshStandby}
+use Rattle.standby_rules.specs.declared.StandbyEvent.{StandbyEvent}
+use Rattle.standby_rules.specs.declared.StandbyEvent.the-variants.{Begin as begin, Ack as ack, Poll as poll}
 use Rattle.rack.specs.Clocks.{Clocks, reads}
 
 -- ---- Rules: what each party does at a step
@@ -124,9 +126,9 @@ put observers x o y = if y =? x then o else observers y
 
 -- A message enters the history only as what the answer of this very event sends.
 unfoldable pub posted : Party → (g : ℕ) → Said Spoken → List Sent → List Sent
-posted by g (refusal k) history = history
-posted by g (gives (message m)) history = record { by = by; what = m; time = g } ∷ history
-posted by g (gives (wordWith w values)) history = history
+posted by g (refusal k values) history = history
+posted by g (gives (giving (message m) words)) history = record { by = by; what = m; time = g } ∷ history
+posted by g (gives (giving nothing words)) history = history
 
 pub record After : Type 0 where
   pub state : State

@@ -1,4 +1,5 @@
 -- The single runs, shown by computation.
+mod Computing
 mod Shown
 mod Shortcuts
 mod Freedoms

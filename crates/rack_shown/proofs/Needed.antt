@@ -1,21 +1,14 @@
 -- The runs and near-runs of specs/Needed.antt compute to what is written in them. Assumes nothing.
 use mathlib.Core.Bool.{Bool, true, false, _&&_}
 use mathlib.Core.List.{List, [], _∷_}
-use mathlib.Core.Path.{_≡_, refl, ap, _∙_}
+use mathlib.Core.Path.{_≡_, refl}
 use lib.ListN.{take, drop}
-use Rattle.words.specs.Lists.{every, some, countWhere}
-use Rattle.words.specs.Said.{first}
+use Rattle.words.specs.Lists.{every}
 use Rattle.settings.specs.declared.Settings.{Settings}
-use Rattle.settings.specs.Settings.{ranges, eachIn, inRange, refusalOf, window}
-use Rattle.settings.specs.Quorums.{members, survives, closes}
-use Rattle.messages.specs.Outcomes.{unlessRefused}
-use Rattle.recorder_rules.specs.Recorder as recorder
-use Rattle.observer_rules.specs.Observer as observer
-use Rattle.standby_rules.specs.Standby as standby
-use Rattle.rack.specs.Clocks.{Clocks, reads}
-use Rattle.rack.specs.Runs.{Rules, Event, time, partyKey, statusKey, messageKey, sameNumbers, wasSent, put, posted, perform, inTime, readingsAt, rising, onClock, delivered, stateAfter, answerTo, isRun}
-use Rattle.rack.specs.Claims.{isRequest, sentBy, prompt, isBegin, ackFrom}
-use Rattle.rack_shown.specs.Tables.{runOf, answersTo}
+use Rattle.rack.specs.Clocks.{Clocks}
+use Rattle.rack.specs.Runs.{Rules, Event, inTime, rising, onClock, delivered, stateAfter, isRun}
+use Rattle.rack_shown.proofs.Computing.{computing}
+use Rattle.rack_shown.specs.Tables.{runOf}
 use Rattle.rack_shown.specs.Shown.{renewalFails}
 use Rattle.rack_shown.specs.Needed.{no-test, passesBut, readsTooLow, requestInvented, checkInvented, ackInvented, grantInvented, askedOnce, repliesRefused, sentLater, arrivesLate, TestsAreNeeded, DetectionNeedsThem}
 
@@ -34,7 +27,8 @@ unfolding passesBut isRun every
 all-of-them rules s clocks [] = refl
 all-of-them rules s clocks (e ∷ past) =
     rw (all-of-them rules s clocks past)
-    (in-a-row (isRun rules s clocks past) (inTime past e) (rising past e) (onClock s clocks e) (delivered (stateAfter rules s past .history) e))
+    (in-a-row (isRun rules s clocks past) (inTime past e) (rising past e) (onClock s clocks e)
+    (delivered (stateAfter rules s past .history) e))
 
 -- all that holds by computation
 record Computed : Type 0 where
@@ -42,7 +36,8 @@ record Computed : Type 0 where
   premises : DetectionNeedsThem
 
 computed : Computed
-unfolding passesBut renewalFails readsTooLow requestInvented checkInvented ackInvented grantInvented askedOnce repliesRefused sentLater arrivesLate isRequest sentBy prompt isBegin ackFrom every some countWhere first ranges eachIn inRange refusalOf window members survives closes unlessRefused recorder.spaced recorder.form recorder.hasForm recorder.lackingFrom recorder.lacking recorder.kept recorder.advanced recorder.accepted recorder.registered recorder.standing recorder.tickEvent recorder.grantEvent recorder.driveEvent recorder.tickOf recorder.grantOf recorder.driveOf recorder.stepOf observer.form observer.hasForm observer.store observer.storeAll observer.stores observer.requestOf observer.cutOf observer.statusAt observer.checkOf observer.restartOf observer.stepOf standby.isDead standby.isUnused standby.goodPlace standby.form standby.hasForm standby.beginOf standby.greatest standby.verdict standby.afterKeeping standby.ackWithin standby.pollWithin standby.stepWithin reads time partyKey statusKey messageKey sameNumbers wasSent put posted perform inTime readingsAt rising onClock delivered stateAfter answerTo isRun answersTo
+unfolding computing passesBut renewalFails readsTooLow requestInvented checkInvented ackInvented grantInvented askedOnce
+    repliesRefused sentLater arrivesLate
 computed =
     let later = runOf (sentLater 14) in
     let late = runOf (arrivesLate 16) in

@@ -3,22 +3,13 @@
 use mathlib.Core.List.{[], _∷_}
 use mathlib.Core.Path.{refl}
 use lib.ListN.{drop}
-use Rattle.words.specs.Lists.{every, some, countWhere}
-use Rattle.words.specs.Said.{first}
-use Rattle.settings.specs.Settings.{ranges, eachIn, inRange, refusalOf, window}
-use Rattle.settings.specs.Quorums.{members, survives, closes}
 use Rattle.messages.specs.declared.Status.the-variants.{Alive, Dead}
 use Rattle.messages.specs.Answers.{saysOf}
-use Rattle.messages.specs.Outcomes.{unlessRefused}
-use Rattle.recorder_rules.specs.Recorder as recorder
-use Rattle.recorder_rules.specs.Recorder.Event.{grant}
-use Rattle.observer_rules.specs.Observer as observer
-use Rattle.standby_rules.specs.Standby as standby
-use Rattle.standby_rules.specs.Standby.Event.{ack}
-use Rattle.rack.specs.Clocks.{reads}
-use Rattle.rack.specs.Runs.{time, partyKey, statusKey, messageKey, sameNumbers, wasSent, put, posted, perform, inTime, readingsAt, rising, onClock, delivered, stateAfter, answerTo, isRun}
+use Rattle.recorder_rules.specs.declared.RecorderEvent.the-variants.{Grant as grant}
+use Rattle.standby_rules.specs.declared.StandbyEvent.the-variants.{Ack as ack}
 use Rattle.rack.specs.Runs.Event.{atRecorder, atStandby}
-use Rattle.rack_shown.specs.Tables.{clocksAhead, together, runOf, answersTo}
+use Rattle.rack_shown.proofs.Computing.{computing}
+use Rattle.rack_shown.specs.Tables.{clocksAhead, together, runOf}
 use Rattle.rack_shown.specs.Shortcuts.{WindowPlusOneUnsafe, TwoGrainsUnsafe, NoRoundingUnsafe, GrantFirstUnsafe, MajorityUnsafe, LatestFirstUnsafe, askedTooEarly, roundedDown, grantFirst, slept, byMajority, majorityStep, outvoted, latestFirst, cutBetween}
 
 -- all that holds by computation
@@ -31,7 +22,7 @@ record Computed : Type 0 where
   latest-first : LatestFirstUnsafe
 
 computed : Computed
-unfolding askedTooEarly roundedDown grantFirst slept byMajority majorityStep outvoted latestFirst cutBetween every some countWhere first ranges eachIn inRange refusalOf window members survives closes unlessRefused recorder.spaced recorder.form recorder.hasForm recorder.lackingFrom recorder.lacking recorder.kept recorder.advanced recorder.accepted recorder.registered recorder.standing recorder.tickEvent recorder.grantEvent recorder.driveEvent recorder.tickOf recorder.grantOf recorder.driveOf recorder.stepOf observer.form observer.hasForm observer.store observer.storeAll observer.stores observer.requestOf observer.cutOf observer.statusAt observer.checkOf observer.stepOf standby.isDead standby.isUnused standby.goodPlace standby.form standby.hasForm standby.beginOf standby.greatest standby.verdict standby.afterKeeping standby.ackWithin standby.stepWithin reads time partyKey statusKey messageKey sameNumbers wasSent put posted perform inTime readingsAt rising onClock delivered stateAfter answerTo isRun answersTo
+unfolding computing askedTooEarly roundedDown grantFirst slept byMajority majorityStep outvoted latestFirst cutBetween
 computed =
     let early = runOf (askedTooEarly (saysOf "dead" 1)) in
     let near = clocksAhead 0 0 (1 ∷ []) in

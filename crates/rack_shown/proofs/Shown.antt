@@ -5,24 +5,16 @@ use mathlib.Core.List.{List, [], _∷_, _++_}
 use mathlib.Core.Logic.{inl, inr}
 use mathlib.Core.Path.{_≡_, refl, sym, ap}
 use lib.ListN.{take, drop}
-use Rattle.words.specs.Lists.{every, some, countWhere}
-use Rattle.words.specs.Said.{first}
 use Rattle.words.proofs.Booleans.{both-hold, not-both}
-use Rattle.settings.specs.Settings.{ranges, eachIn, inRange, refusalOf, window}
-use Rattle.settings.specs.Quorums.{members, survives, closes}
 use Rattle.messages.specs.declared.Status.the-variants.{Alive, Dead}
 use Rattle.messages.specs.Answers.{saysOf}
-use Rattle.messages.specs.Outcomes.{unlessRefused}
 use Rattle.recorder_rules.specs.Recorder as recorder
-use Rattle.observer_rules.specs.Observer as observer
-use Rattle.standby_rules.specs.Standby as standby
-use Rattle.standby_rules.specs.Standby.Event.{ack}
-use Rattle.standby_rules.proofs.Verdicts.{says-other}
-use Rattle.rack.specs.Clocks.{reads}
-use Rattle.rack.specs.Runs.{ours, Event, time, partyKey, statusKey, messageKey, sameNumbers, wasSent, put, posted, perform, inTime, readingsAt, rising, onClock, delivered, stateAfter, answerTo, isRun}
+use Rattle.standby_rules.specs.declared.StandbyEvent.the-variants.{Ack as ack}
+use Rattle.messages.proofs.Apart.{says-other}
+use Rattle.rack.specs.Runs.{ours, Event, stateAfter}
 use Rattle.rack.specs.Runs.Event.{atStandby}
-use Rattle.rack.specs.Claims.{isRequest, sentBy, prompt, isBegin, isRestart, ackFrom}
-use Rattle.rack_shown.specs.Tables.{narrow, together, runOf, answersTo}
+use Rattle.rack_shown.proofs.Computing.{computing}
+use Rattle.rack_shown.specs.Tables.{narrow, together, runOf}
 use Rattle.rack_shown.specs.Shown.{renewalFails, DeadToldAtTheWindow, renewed, AliveToldWhileDriving, lastRequest, query, queriedAt, BoundIsMet, BoundIsMissed, BoundIsTight, asked, replies, JustInTime, unheard, cutLate, begunAnew, restarted, PremisesNeeded}
 
 -- whether the recorder is registered behind this past
@@ -44,7 +36,8 @@ never-registered [] [] never r = not-and-so (registeredBehind []) never r
 never-registered [] (e ∷ past) never r =
     not-and-so (registeredBehind (e ∷ past)) (both-hold (not (registeredBehind (e ∷ past))) (neverRegistered past) never .0) r
 never-registered (e ∷ later) past never r =
-    never-registered later past (both-hold (not (registeredBehind (e ∷ (later ++ past)))) (neverRegistered (later ++ past)) never .1) r
+    let rest = both-hold (not (registeredBehind (e ∷ (later ++ past)))) (neverRegistered (later ++ past)) never .1 in
+    never-registered later past rest r
 
 -- all that holds by computation
 record Computed : Type 0 where
@@ -58,7 +51,7 @@ record Computed : Type 0 where
 -- In the runs of detection the recorder is registered behind the first three events. `DetectsFrom (bound s)` is `Detects`, its
 -- premises in one record.
 computed : Computed
-unfolding neverRegistered renewalFails renewed lastRequest query asked replies unheard cutLate begunAnew restarted isRequest sentBy prompt isBegin isRestart ackFrom every some countWhere first ranges eachIn inRange refusalOf window members survives closes unlessRefused recorder.spaced recorder.form recorder.hasForm recorder.lackingFrom recorder.lacking recorder.kept recorder.advanced recorder.accepted recorder.registered recorder.standing recorder.tickEvent recorder.grantEvent recorder.driveEvent recorder.tickOf recorder.grantOf recorder.driveOf recorder.stepOf observer.form observer.hasForm observer.store observer.storeAll observer.stores observer.requestOf observer.cutOf observer.statusAt observer.checkOf observer.stepOf standby.isDead standby.isUnused standby.goodPlace standby.form standby.hasForm standby.beginOf standby.greatest standby.verdict standby.afterKeeping standby.ackWithin standby.stepWithin reads time partyKey statusKey messageKey sameNumbers wasSent put posted perform inTime readingsAt rising onClock delivered stateAfter answerTo isRun answersTo
+unfolding computing neverRegistered renewalFails renewed lastRequest query asked replies unheard cutLate begunAnew restarted
 computed =
     let late = runOf (queriedAt 16 Dead "dead") in
     let early = runOf (queriedAt 15 Alive "alive") in

@@ -11,9 +11,9 @@ use Rattle.settings.specs.Settings.{settings}
 use Rattle.messages.specs.declared.Status.the-variants.{Alive, Dead}
 use Rattle.messages.specs.declared.Message.the-variants.{LeaseRequest, LeaseGrant, Check, CheckAck}
 use Rattle.messages.specs.Answers.{sends, says, saysOf, refuses}
-use Rattle.recorder_rules.specs.Recorder.Event.{tick, grant, drive}
-use Rattle.observer_rules.specs.Observer.Event.{request, cut, check}
-use Rattle.standby_rules.specs.Standby.Event.{begin, ack, poll}
+use Rattle.recorder_rules.specs.declared.RecorderEvent.the-variants.{Tick as tick, Grant as grant, Drive as drive}
+use Rattle.observer_rules.specs.declared.ObserverEvent.the-variants.{Request as request, Cut as cut, Check as check}
+use Rattle.standby_rules.specs.declared.StandbyEvent.the-variants.{Begin as begin, Ack as ack, Poll as poll}
 use Rattle.rack.specs.Clocks.{Clock, Clocks}
 use Rattle.rack.specs.Runs.{ours}
 use Rattle.rack.specs.Runs.Event.{atRecorder, atObserver, atStandby, crash, restart}

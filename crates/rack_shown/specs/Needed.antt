@@ -7,14 +7,14 @@ use mathlib.Core.Path.{_≡_}
 use lib.ListN.{take, drop}
 use Rattle.words.specs.Lists.{every}
 use Rattle.settings.specs.declared.Settings.{Settings}
-use Rattle.settings.specs.Settings.{usual, Δ, refusalOf, window}
-use Rattle.settings.specs.Quorums.{closes}
+use Rattle.settings.specs.Settings.{Δ, refusalOf}
+use Rattle.quorums.specs.Quorums.{closes}
 use Rattle.messages.specs.declared.Status.the-variants.{Alive, Dead}
 use Rattle.messages.specs.declared.Message.the-variants.{LeaseRequest, LeaseGrant, Check, CheckAck}
 use Rattle.messages.specs.Answers.{sends, says, saysOf, refuses}
-use Rattle.recorder_rules.specs.Recorder.Event.{tick, grant, drive}
-use Rattle.observer_rules.specs.Observer.Event.{request, check}
-use Rattle.standby_rules.specs.Standby.Event.{begin, ack}
+use Rattle.recorder_rules.specs.declared.RecorderEvent.the-variants.{Tick as tick, Grant as grant, Drive as drive}
+use Rattle.observer_rules.specs.declared.ObserverEvent.the-variants.{Request as request, Check as check}
+use Rattle.standby_rules.specs.declared.StandbyEvent.the-variants.{Begin as begin, Ack as ack}
 use Rattle.rack.specs.Clocks.{Clocks}
 use Rattle.rack.specs.Runs.{Rules, ours, Event, inTime, rising, onClock, delivered, stateAfter, isRun}
 use Rattle.rack.specs.Runs.Event.{atRecorder, atObserver, atStandby}
@@ -24,8 +24,8 @@ use Rattle.rack_shown.specs.Shown.{bound, renewalFails}
 
 -- ---- The tests of a run
 
--- what an event has to pass behind its past: time does not fall, nor do its party's readings; the reading is one of the clock; and
--- what arrives was sent
+-- what an event has to pass behind its past: time does not fall, nor do its party's readings; the reading is one of the clock;
+-- and what arrives was sent
 abbrev pub tests : Rules → Settings → Clocks → (past : List Event) → Event → List Bool
 tests rules s clocks past e =
     inTime past e
@@ -238,10 +238,12 @@ pub record DetectionNeedsThem : Type 0 where
   pub later-registered : RegisteredIn ours narrow (runOf (sentLater (bound narrow 0 1)))
   pub later-sent : sentBy 0 (stateAfter ours narrow (runOf (sentLater (bound narrow 0 1))) .history) ≡ false
   pub later-prompt :
-      every (prompt 1 (stateAfter ours narrow (runOf (sentLater (bound narrow 0 1))) .history)) (runOf (sentLater (bound narrow 0 1))) ≡ true
+      every (prompt 1 (stateAfter ours narrow (runOf (sentLater (bound narrow 0 1))) .history))
+      (runOf (sentLater (bound narrow 0 1))) ≡ true
   -- none arrives after D, one that is granted included
   pub late : AsWritten ours narrow together (arrivesLate (bound narrow 2 1))
   pub late-registered : RegisteredIn ours narrow (runOf (arrivesLate (bound narrow 2 1)))
   pub late-sent : sentBy 2 (stateAfter ours narrow (runOf (arrivesLate (bound narrow 2 1))) .history) ≡ true
   pub late-not-prompt :
-      every (prompt 1 (stateAfter ours narrow (runOf (arrivesLate (bound narrow 2 1))) .history)) (runOf (arrivesLate (bound narrow 2 1))) ≡ false
+      every (prompt 1 (stateAfter ours narrow (runOf (arrivesLate (bound narrow 2 1))) .history))
+      (runOf (arrivesLate (bound narrow 2 1))) ≡ false

@@ -1,5 +1,5 @@
--- Shortcuts that look harmless: each is a set of rules that differs from ours in one thing, and a run in which the standby is told
--- dead and the recorder drives on.
+-- Shortcuts that look harmless: each is a set of rules that differs from ours in one thing, and a run in which the standby is
+-- told dead and the recorder drives on.
 use Prim.Native.Nat.{ℕ, _+_, _*_, _-_}
 use Prim.Native.String.{String}
 use mathlib.Core.Bool.{false, _&&_, not}
@@ -10,7 +10,7 @@ use Rattle.words.specs.Lists.{countWhere}
 use Rattle.words.specs.Said.{Said}
 use Rattle.settings.specs.declared.Settings.{Settings}
 use Rattle.settings.specs.Settings.{settings, usual, P, O, rounding, window}
-use Rattle.settings.specs.Quorums.{closes}
+use Rattle.quorums.specs.Quorums.{closes}
 use Rattle.messages.specs.declared.Status.{Status}
 use Rattle.messages.specs.declared.Status.the-variants.{Alive, Dead}
 use Rattle.messages.specs.declared.Message.the-variants.{LeaseRequest, LeaseGrant, Check, CheckAck}
@@ -18,17 +18,17 @@ use Rattle.messages.specs.Answers.{Spoken, sends, says, saysOf}
 use Rattle.messages.specs.Outcomes.{Outcome, _leaving_, unlessRefused}
 use Rattle.recorder_rules.specs.declared.Recorder.{Recorder}
 use Rattle.recorder_rules.specs.Recorder as recorder
-use Rattle.recorder_rules.specs.Recorder.{Event as RecorderEvent}
-use Rattle.recorder_rules.specs.Recorder.Event.{tick, grant, drive}
+use Rattle.recorder_rules.specs.declared.RecorderEvent.{RecorderEvent}
+use Rattle.recorder_rules.specs.declared.RecorderEvent.the-variants.{Tick as tick, Grant as grant, Drive as drive}
 use Rattle.observer_rules.specs.declared.Observer.{Observer}
 use Rattle.observer_rules.specs.Observer as observer
-use Rattle.observer_rules.specs.Observer.{Event as ObserverEvent}
-use Rattle.observer_rules.specs.Observer.Event.{request, cut, check}
+use Rattle.observer_rules.specs.declared.ObserverEvent.{ObserverEvent}
+use Rattle.observer_rules.specs.declared.ObserverEvent.the-variants.{Request as request, Cut as cut, Check as check}
 use Rattle.standby_rules.specs.declared.Place.{Place}
 use Rattle.standby_rules.specs.declared.Standby.{Standby}
 use Rattle.standby_rules.specs.Standby as standby
-use Rattle.standby_rules.specs.Standby.{Event as StandbyEvent}
-use Rattle.standby_rules.specs.Standby.Event.{begin, ack, poll}
+use Rattle.standby_rules.specs.declared.StandbyEvent.{StandbyEvent}
+use Rattle.standby_rules.specs.declared.StandbyEvent.the-variants.{Begin as begin, Ack as ack, Poll as poll}
 use Rattle.rack.specs.Clocks.{Clocks}
 use Rattle.rack.specs.Runs.{Rules, oursWithin, ours}
 use Rattle.rack.specs.Runs.Event.{atRecorder, atObserver, atStandby}
@@ -115,11 +115,11 @@ NoRoundingUnsafe =
 
 -- the grant goes in before the ended leases are looked at; else our steps
 unfoldable pub grantFirst : Settings → Recorder → (r : ℕ) → RecorderEvent → Outcome Recorder
-grantFirst s rec r tick = recorder.tickOf s rec r
+grantFirst s rec r tick = recorder.stepOf s rec r tick
 grantFirst s rec r (grant x j) =
     unlessRefused (recorder.grantRefusals s rec r x j) rec
     (recorder.accepted s (recorder.granting rec x j) r (recorder.driveEvent s))
-grantFirst s rec r drive = recorder.driveOf s rec r
+grantFirst s rec r drive = recorder.stepOf s rec r drive
 
 abbrev pub countingGrantsFirst : Rules
 countingGrantsFirst = record { recorder = grantFirst; observer = ours .observer; standby = ours .standby }
@@ -205,11 +205,11 @@ MajorityUnsafe =
 
 -- a cut leaves the first k of the stores in the other order; a request that is not cut does both; else our steps
 unfoldable pub latestFirst : Settings → Observer → (x r : ℕ) → ObserverEvent → Outcome Observer
-latestFirst s o x r (request c) = observer.requestOf s o x r c
+latestFirst s o x r (request c) = observer.stepOf s o x r (request c)
 latestFirst s o x r (cut c k) =
     unlessRefused (observer.cutRefusals s o x r c k) o
     (says "cut" leaving observer.atReading 0 (observer.storeAll (take k (reverse (observer.stores s o r c))) o))
-latestFirst s o x r (check ts) = observer.checkOf s o x r ts
+latestFirst s o x r (check ts) = observer.stepOf s o x r (check ts)
 
 abbrev pub storingLatestFirst : Rules
 storingLatestFirst = record { recorder = ours .recorder; observer = latestFirst; standby = ours .standby }

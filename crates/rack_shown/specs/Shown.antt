@@ -9,14 +9,14 @@ use Rattle.words.specs.Lists.{every}
 use Rattle.words.specs.Said.{Said}
 use Rattle.settings.specs.declared.Settings.{Settings}
 use Rattle.settings.specs.Settings.{usual, Δ, O, rounding, window, slackB}
-use Rattle.settings.specs.Quorums.{closes}
+use Rattle.quorums.specs.Quorums.{closes}
 use Rattle.messages.specs.declared.Status.{Status}
 use Rattle.messages.specs.declared.Status.the-variants.{Alive, Dead}
 use Rattle.messages.specs.declared.Message.the-variants.{LeaseRequest, LeaseGrant, Check, CheckAck}
 use Rattle.messages.specs.Answers.{Spoken, refuses, sends, says, saysOf}
-use Rattle.recorder_rules.specs.Recorder.Event.{tick, grant, drive}
-use Rattle.observer_rules.specs.Observer.Event.{request, cut, check}
-use Rattle.standby_rules.specs.Standby.Event.{begin, ack}
+use Rattle.recorder_rules.specs.declared.RecorderEvent.the-variants.{Tick as tick, Grant as grant, Drive as drive}
+use Rattle.observer_rules.specs.declared.ObserverEvent.the-variants.{Request as request, Cut as cut, Check as check}
+use Rattle.standby_rules.specs.declared.StandbyEvent.the-variants.{Begin as begin, Ack as ack}
 use Rattle.rack.specs.Clocks.{Clocks}
 use Rattle.rack.specs.Runs.{Rules, ours, Event, stateAfter, answerTo, isRun}
 use Rattle.rack.specs.Runs.Event.{atRecorder, atObserver, atStandby, restart}
@@ -247,12 +247,14 @@ pub record PremisesNeeded : Type 0 where
   pub not-registered : RegisteredIn ours narrow (runOf (unheard (bound narrow 0 0))) → ⊥
   pub unheard-sent : sentBy 0 (stateAfter ours narrow (runOf (unheard (bound narrow 0 0))) .history) ≡ true
   pub unheard-prompt :
-      every (prompt 0 (stateAfter ours narrow (runOf (unheard (bound narrow 0 0))) .history)) (runOf (unheard (bound narrow 0 0))) ≡ true
+      every (prompt 0 (stateAfter ours narrow (runOf (unheard (bound narrow 0 0))) .history))
+      (runOf (unheard (bound narrow 0 0))) ≡ true
   -- no request arrives after D, one that is cut included
   pub alive : AsWritten ours narrow together (cutLate (bound narrow 2 1))
   pub cut-sent : sentBy 2 (stateAfter ours narrow (runOf (cutLate (bound narrow 2 1))) .history) ≡ true
   pub cut-not-prompt :
-      every (prompt 1 (stateAfter ours narrow (runOf (cutLate (bound narrow 2 1))) .history)) (runOf (cutLate (bound narrow 2 1))) ≡ false
+      every (prompt 1 (stateAfter ours narrow (runOf (cutLate (bound narrow 2 1))) .history))
+      (runOf (cutLate (bound narrow 2 1))) ≡ false
   -- no new round is begun meanwhile
   pub refused : AsWritten ours usual together (asked ++ begunAnew)
   pub two-rounds : noBegin (runOf begunAnew) ≡ false

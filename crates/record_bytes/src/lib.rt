@@ -1,12 +1,24 @@
 // A recorder's record and its 680 bytes, 85 words of 8 bytes, the low byte first: read from a buffer and written into it.
 // Serves rules 8.1. Which bytes are which record stands in `firmware_rules`.
 use recorder_rules::Recorder;
+use recorder_rules::fresh_recorder;
+use settings::MOST_LEASES;
+use settings::MOST_OBSERVERS;
 ghost use mathlib.Core.Path.{_≡_};
 ghost use Prim.Native.Nat.{_+_, _≤_, _<_};
 ghost use lib.ListN.{length, take, drop};
 ghost use Rattle.fields.specs.Places.{putAt};
-ghost use Rattle.firmware_rules.specs.Bytes.{wordOf, bytesIn, wordsAt, bytesOf, decoded, encoded};
+ghost use Rattle.firmware_rules.specs.Bytes.{recordBytes, wordOf, bytesIn, wordsAt, bytesOf, decoded, encoded};
+ghost use Rattle.settings.specs.Settings.{mostObservers, mostLeases};
+ghost use Rattle.record_bytes.specs.Parts.{sendsAt, grantsAt};
 ghost use Rattle.record_bytes.specs.Held.{recordIn, withRecord};
+
+// The bytes of a record, of which the send readings begin at 40 and the grants behind them.
+pub const RECORD_BYTES: usize = 680;
+
+const SENDS_AT: usize = 40;
+
+const GRANTS_AT: usize = 552;
 
 fn wide(byte: u8) -> u64
     ensures { λ r. ⌜ (r ≡ byte) × (r < 256) ⌝ }
@@ -29,36 +41,36 @@ fn word_at(b: &[u8], at: usize) -> u64
     wide(b[at]) + 256 * from_1
 }
 
-// 64 words from byte 40 on: the send readings.
-fn sends_of(b: &[u8]) -> [u64; 64]
-    requires { ⌜ length (now b) ≡ 680 ⌝ }
-    ensures { λ r. ⌜ r ≡ wordsAt 64 (drop 40 (now (b .entry))) ⌝ }
+// The send readings.
+fn sends_of(b: &[u8]) -> [u64; MOST_LEASES]
+    requires { ⌜ length (now b) ≡ recordBytes ⌝ }
+    ensures { λ r. ⌜ r ≡ wordsAt mostLeases (drop sendsAt (now (b .entry))) ⌝ }
 {
-    let mut sends = [0u64; 64];
+    let mut sends = [0u64; MOST_LEASES];
     let mut i: usize = 0;
-    while i < 64 {
-        sends[i] = word_at(b, 40 + 8 * i);
+    while i < MOST_LEASES {
+        sends[i] = word_at(b, SENDS_AT + 8 * i);
         i += 1;
     }
     sends
 }
 
-// 16 words from byte 552 on: the grants.
-fn grants_of(b: &[u8]) -> [u64; 16]
-    requires { ⌜ length (now b) ≡ 680 ⌝ }
-    ensures { λ r. ⌜ r ≡ wordsAt 16 (drop 552 (now (b .entry))) ⌝ }
+// The grants.
+fn grants_of(b: &[u8]) -> [u64; MOST_OBSERVERS]
+    requires { ⌜ length (now b) ≡ recordBytes ⌝ }
+    ensures { λ r. ⌜ r ≡ wordsAt mostObservers (drop grantsAt (now (b .entry))) ⌝ }
 {
-    let mut grants = [0u64; 16];
+    let mut grants = [0u64; MOST_OBSERVERS];
     let mut i: usize = 0;
-    while i < 16 {
-        grants[i] = word_at(b, 552 + 8 * i);
+    while i < MOST_OBSERVERS {
+        grants[i] = word_at(b, GRANTS_AT + 8 * i);
         i += 1;
     }
     grants
 }
 
 fn decode(b: &[u8]) -> Recorder
-    requires { ⌜ length (now b) ≡ 680 ⌝ }
+    requires { ⌜ length (now b) ≡ recordBytes ⌝ }
     ensures { λ r. ⌜ r ≡ decoded (now (b .entry)) ⌝ }
 {
     let stopped = word_at(b, 0);
@@ -101,32 +113,32 @@ fn put_word(b: &mut [u8], at: usize, word: u64)
     b[at + 7] = (from_7 % 256) as u8;
 }
 
-fn put_sends(b: &mut [u8], sends: [u64; 64])
-    requires { ⌜ length (now b) ≡ 680 ⌝ }
-    ensures { λ _. ⌜ now (b .exit) ≡ putAt (now (b .entry)) 40 (bytesOf sends) ⌝ }
+fn put_sends(b: &mut [u8], sends: [u64; MOST_LEASES])
+    requires { ⌜ length (now b) ≡ recordBytes ⌝ }
+    ensures { λ _. ⌜ now (b .exit) ≡ putAt (now (b .entry)) sendsAt (bytesOf sends) ⌝ }
 {
     let mut i: usize = 0;
-    while i < 64 {
+    while i < MOST_LEASES {
         let send = sends[i];
-        put_word(&mut b[..], 40 + 8 * i, send);
+        put_word(&mut b[..], SENDS_AT + 8 * i, send);
         i += 1;
     }
 }
 
-fn put_grants(b: &mut [u8], grants: [u64; 16])
-    requires { ⌜ length (now b) ≡ 680 ⌝ }
-    ensures { λ _. ⌜ now (b .exit) ≡ putAt (now (b .entry)) 552 (bytesOf grants) ⌝ }
+fn put_grants(b: &mut [u8], grants: [u64; MOST_OBSERVERS])
+    requires { ⌜ length (now b) ≡ recordBytes ⌝ }
+    ensures { λ _. ⌜ now (b .exit) ≡ putAt (now (b .entry)) grantsAt (bytesOf grants) ⌝ }
 {
     let mut i: usize = 0;
-    while i < 16 {
+    while i < MOST_OBSERVERS {
         let grant = grants[i];
-        put_word(&mut b[..], 552 + 8 * i, grant);
+        put_word(&mut b[..], GRANTS_AT + 8 * i, grant);
         i += 1;
     }
 }
 
 fn encode(b: &mut [u8], rec: Recorder)
-    requires { ⌜ length (now b) ≡ 680 ⌝ }
+    requires { ⌜ length (now b) ≡ recordBytes ⌝ }
     ensures { λ _. ⌜ now (b .exit) ≡ encoded rec ⌝ }
 {
     put_word(&mut b[..], 0, rec.stopped);
@@ -144,18 +156,10 @@ fn encode(b: &mut [u8], rec: Recorder)
 pub fn record_in(b: &[u8]) -> Recorder
     ensures { λ r. ⌜ r ≡ recordIn (now (b .entry)) ⌝ }
 {
-    if b.len() == 680 {
+    if b.len() == RECORD_BYTES {
         decode(b)
     } else {
-        Recorder {
-            stopped: 0,
-            counter: 0,
-            last_send: 0,
-            last_reading: 0,
-            open_leases: 0,
-            sends: [0; 64],
-            grants: [0; 16],
-        }
+        fresh_recorder()
     }
 }
 
@@ -163,7 +167,7 @@ pub fn record_in(b: &[u8]) -> Recorder
 pub fn put_record(b: &mut [u8], rec: Recorder)
     ensures { λ _. ⌜ now (b .exit) ≡ withRecord (now (b .entry)) rec ⌝ }
 {
-    if b.len() == 680 {
+    if b.len() == RECORD_BYTES {
         encode(&mut b[..], rec);
     }
 }

@@ -2,12 +2,10 @@
 use crate::rack::Rack;
 use crate::show;
 use messages::Answer;
-use observer_rules::Observer;
-use settings::Settings;
-use step_lines::ObserverStep;
-use step_lines::RecorderStep;
+use observer_rules::ObserverEvent;
+use recorder_rules::RecorderEvent;
+use standby_rules::StandbyEvent;
 use step_lines::SettingsLine;
-use step_lines::StandbyStep;
 use step_lines::StepLine;
 
 // The settings of the line, with their answer and their slacks.
@@ -25,9 +23,9 @@ pub fn settle(held: Rack, line: &[u8]) -> Rack {
     next
 }
 
-fn recorder_step(held: Rack, reading: u64, step: RecorderStep) -> Rack {
+fn recorder_step(held: Rack, reading: u64, event: RecorderEvent) -> Rack {
     let rec = held.recorder;
-    let done = session::recorder_step(held.settings, rec, reading, step);
+    let done = recorder::step(held.settings, rec, reading, event);
     let answer = done.answer;
     let left = done.rec;
     show::answer(answer);
@@ -37,35 +35,28 @@ fn recorder_step(held: Rack, reading: u64, step: RecorderStep) -> Rack {
     next
 }
 
-// The same on a record that is lent.
-fn lent(s: Settings, o: Observer, x: u64, reading: u64, step: ObserverStep) -> observer::Stepped {
-    match step {
-        ObserverStep::Request(c) => observer_lent::lend_to_request(s, o, x, reading, c),
-        ObserverStep::Cut(c, k) => observer_lent::lend_to_cut(s, o, x, reading, c, k),
-        ObserverStep::Check(ts) => observer_lent::lend_to_check(s, o, x, reading, ts),
-    }
-}
-
 fn show_observer(done: observer::Stepped) {
     let answer = done.answer;
     show::answer(answer);
     show::observer(done.rec);
 }
 
-fn observer_step(held: Rack, x: u64, reading: u64, step: ObserverStep) -> Rack {
+fn observer_step(held: Rack, x: u64, reading: u64, event: ObserverEvent) -> Rack {
     let o = held.observer;
-    let done = session::observer_step(held.settings, o, x, reading, step);
+    let done = observer::step(held.settings, o, x, reading, event);
     show_observer(done);
-    show_observer(lent(held.settings, o, x, reading, step));
+    // the same on a record that is lent
+    let lent = observer_lent::lend_to_step(held.settings, o, x, reading, event);
+    show_observer(lent);
     let left = done.rec;
     let mut next = held;
     next.observer = left;
     next
 }
 
-fn standby_step(held: Rack, reading: u64, step: StandbyStep) -> Rack {
+fn standby_step(held: Rack, reading: u64, event: StandbyEvent) -> Rack {
     let q = held.standby;
-    let done = session::standby_step(held.settings, q, reading, step);
+    let done = standby::step(held.settings, q, reading, event);
     let answer = done.answer;
     let left = done.rec;
     show::answer(answer);
@@ -79,9 +70,9 @@ fn standby_step(held: Rack, reading: u64, step: StandbyStep) -> Rack {
 pub fn step(held: Rack, line: &[u8]) -> Rack {
     let asked = step_lines::read_step_line(line);
     match asked {
-        StepLine::Recorder(reading, step) => recorder_step(held, reading, step),
-        StepLine::Observer(x, reading, step) => observer_step(held, x, reading, step),
-        StepLine::Standby(reading, step) => standby_step(held, reading, step),
+        StepLine::Recorder(reading, event) => recorder_step(held, reading, event),
+        StepLine::Observer(x, reading, event) => observer_step(held, x, reading, event),
+        StepLine::Standby(reading, event) => standby_step(held, reading, event),
         StepLine::Bad => {
             show::answer(Answer::Refused(9));
             held

@@ -1,13 +1,16 @@
 // The settings and records that the cases hand in, and the lines that set them.
 use crate::show;
-use fields::Number;
+use decimals::Number;
+use decimals::read_number;
 use fields::part_from;
-use fields::read_number;
 use fields::starts;
 use messages::Status;
 use observer_rules::Observer;
 use recorder_rules::Recorder;
+use settings::MOST_LEASES;
+use settings::MOST_OBSERVERS;
 use settings::Settings;
+use settings::settings_of;
 use standby_rules::Place;
 use standby_rules::Standby;
 
@@ -67,8 +70,8 @@ fn recorder_of(v: [u64; 7]) -> Recorder {
         last_send: v[2],
         last_reading: v[3],
         open_leases: v[4],
-        sends: [0; 64],
-        grants: [0; 16],
+        sends: [0; MOST_LEASES],
+        grants: [0; MOST_OBSERVERS],
     }
 }
 
@@ -99,22 +102,14 @@ fn standby_of(v: [u64; 7]) -> Standby {
         open_flag: v[0] == 1,
         ts: v[1],
         last_reading: v[2],
-        places: [unused; 16],
+        places: [unused; MOST_OBSERVERS],
     }
 }
 
 pub fn fresh() -> Rack {
     let none = [0u64; 7];
     Rack {
-        settings: Settings {
-            observers: 3,
-            survival: 2,
-            interval: 100,
-            timeliness: 40,
-            recorder_lease: 159,
-            observer_lease: 235,
-            grain: 10,
-        },
+        settings: settings_of([3, 2, 100, 40, 159, 235, 10]),
         recorder: recorder_of(none),
         observer: observer_of(none),
         standby: standby_of(none),
@@ -123,7 +118,7 @@ pub fn fresh() -> Rack {
 
 fn with_send(rec: Recorder, place: u64, value: u64) -> Recorder {
     let mut next = rec;
-    if place < 64 {
+    if place < MOST_LEASES as u64 {
         next.sends[place as usize] = value;
     }
     next
@@ -131,7 +126,7 @@ fn with_send(rec: Recorder, place: u64, value: u64) -> Recorder {
 
 fn with_grant(rec: Recorder, place: u64, value: u64) -> Recorder {
     let mut next = rec;
-    if place < 16 {
+    if place < MOST_OBSERVERS as u64 {
         next.grants[place as usize] = value;
     }
     next
@@ -141,7 +136,7 @@ fn with_place(q: Standby, v: [u64; 7]) -> Standby {
     let place = v[0];
     let set = place_of(v[1], v[2], v[3]);
     let mut next = q;
-    if place < 16 {
+    if place < MOST_OBSERVERS as u64 {
         next.places[place as usize] = set;
     }
     next

@@ -1,3 +1,2 @@
 -- Laws of the recorder.
-mod Leases
 mod Walked

@@ -1,5 +1,5 @@
--- What the private parts of a step give, put together: a record of the form has its bounds, a step that is not refused goes by
--- what `advance` gives, and the record at its event has room for one lease more. Assumes nothing.
+-- What the parts of a step give, put together: a step that is not refused goes by what `advance` gives, and the record at its
+-- event has room for one lease more. Assumes nothing.
 use Prim.Native.Nat.{ℕ}
 use mathlib.Core.Path.{_≡_, refl, sym, ap, _∙_}
 use mathlib.Core.Bool.{Bool, true, false, not}
@@ -13,17 +13,15 @@ use Rattle.messages.specs.Answers.{says}
 use Rattle.messages.specs.Outcomes.{Outcome, _leaving_, unlessRefused}
 use Rattle.messages.proofs.Outcomes.{not-refused}
 use Rattle.recorder_rules.specs.declared.Recorder.{Recorder}
-use Rattle.recorder.specs.declared.Advanced.{Advanced}
+use Rattle.recorder_leases.specs.declared.Advanced.{Advanced}
 use Rattle.recorder_rules.specs.Recorder.{isZero, leases, lacking, kept, placed, advanced, halted, accepted}
 use Rattle.recorder_rules.specs.Claims.{Sized}
-use Rattle.recorder.specs.Parts.{Bounded, advancedTo, Roomy}
-use Rattle.recorder_rules.proofs.Formed.{Formed, has-form}
+use Rattle.recorder_leases.specs.Advanced.{advancedTo}
+use Rattle.recorder.specs.Parts.{Roomy}
+use Rattle.recorder_rules.proofs.Formed.{has-form}
 use Rattle.recorder_rules.proofs.Placing.{placed-back}
 use Rattle.recorder_rules.proofs.Room.{room-advanced}
 use Rattle.recorder_rules.proofs.Ways.{Allowed}
-
-pub bounded : {s : Settings} {rec : Recorder} → Formed s rec → Bounded rec
-bounded f = record { places = f .leases-places; open-leases = f .leases-counter; counter = f .counter-top }
 
 module _ (s : Settings) (rec : Recorder) (r : ℕ) where
   -- what `advance` gives, by its two tests
@@ -36,20 +34,24 @@ module _ (s : Settings) (rec : Recorder) (r : ℕ) where
   -- the event comes, or *stopped* is said
   by-tests : (event : Recorder → Outcome Recorder)
       → accepted s rec r event
-      ≡ (if advancedTo s rec r .«goes_on» then event (advancedTo s rec r .rec) else says "stopped" leaving advancedTo s rec r .rec)
+      ≡ (if advancedTo s rec r .«goes_on» then event (advancedTo s rec r .rec) else says "stopped" leaving advancedTo s rec r
+      .rec)
   unfolding accepted advancedTo
   by-tests event = by (not (isZero (rec .stopped))) (lacking s rec r)
     where
       by : (is-stopped lacks : Bool)
-          → (if is-stopped then says "stopped" leaving rec else if lacks then says "stopped" leaving halted rec r else event (advanced s rec r))
-          ≡ (if to is-stopped lacks .«goes_on» then event (to is-stopped lacks .rec) else says "stopped" leaving to is-stopped lacks .rec)
+          → (if is-stopped then says "stopped" leaving rec else if lacks then says "stopped" leaving halted rec r else event
+          (advanced s rec r))
+          ≡ (if to is-stopped lacks .«goes_on» then event (to is-stopped lacks .rec) else says "stopped" leaving to is-stopped
+          lacks .rec)
       by true lacks = refl
       by false true = refl
       by false false = refl
 
   pub by-advance : (table : List Refusal) → first table ≡ 0 → (event : Recorder → Outcome Recorder)
       → unlessRefused table rec (accepted s rec r event)
-      ≡ (if advancedTo s rec r .«goes_on» then event (advancedTo s rec r .rec) else says "stopped" leaving advancedTo s rec r .rec)
+      ≡ (if advancedTo s rec r .«goes_on» then event (advancedTo s rec r .rec) else says "stopped" leaving advancedTo s rec r
+      .rec)
   by-advance table none event = not-refused table rec (accepted s rec r event) none ∙ by-tests event
 
   -- a step that goes on leaves the ended leases behind

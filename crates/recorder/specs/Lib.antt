@@ -1,3 +1,3 @@
--- Document 01, "Recorder".
+-- What the recorder's step returns, and its parts.
 pub mod Outcome
 pub mod Parts

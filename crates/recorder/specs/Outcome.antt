@@ -1,4 +1,4 @@
--- What a step's result says: its answer in the numbers and words of 01, and the record that it leaves.
+-- What a step's result says: its answer in the numbers and words of the rules, and the record that it leaves.
 use Rattle.messages.specs.Answers.{said}
 use Rattle.messages.specs.Outcomes.{Outcome}
 use Rattle.recorder_rules.specs.declared.Recorder.{Recorder}

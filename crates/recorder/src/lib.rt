@@ -1,43 +1,30 @@
 // The recorder: the party that drives while its leases hold. Serves rules 3. What a step is to do, and what every step keeps,
-// stands in `recorder_rules`; whether a record has its form is `recorder_form`'s to say.
+// stands in `recorder_rules`; whether a record has its form is `recorder_form`'s to say, and what every accepted step does with
+// the open leases is `recorder_leases`'s to do.
 ghost use mathlib.Core.Path.{_≡_};
-ghost use mathlib.Core.List.{map};
 ghost use Prim.Native.Nat.{_<_};
-ghost use Rattle.words.specs.Tests.{_≤?_};
+ghost use Rattle.settings.specs.Settings.{mostObservers};
 ghost use Rattle.words.specs.Said.{first};
-ghost use Rattle.settings.specs.Quorums.{survives};
-ghost use Rattle.messages.specs.Answers.{said, refuses};
-ghost use Rattle.messages.specs.Outcomes.{_leaving_};
-ghost use Rattle.recorder_rules.specs.Recorder.{stepRefusals, grantRefusals, granted, standing, higher, tickEvent, grantEvent, driveEvent, tickOf, grantOf, driveOf};
+ghost use Rattle.messages.specs.Answers.{said};
+ghost use Rattle.recorder_rules.specs.Recorder.{stepRefusals, grantRefusals, standing, higher, tickEvent, grantEvent, driveEvent, refusalsOf, eventOf, stepOf};
 ghost use Rattle.recorder.specs.Outcome.{outcome};
-ghost use Rattle.recorder.specs.Parts.{Bounded, SiftedAt, advancedTo, Roomy};
+ghost use Rattle.recorder.specs.Parts.{Roomy, Ready};
 use messages::Answer;
 use messages::Message;
-use messages::TOP_COUNTER;
-use messages::TOP_READING;
+use messages::Word;
+use messages::bad_reading;
 use recorder_form::has_form;
+use recorder_leases::advance;
+use recorder_leases::is_granted_above;
 use recorder_rules::Recorder;
+use recorder_rules::RecorderEvent;
 use settings::Settings;
-use settings::contains_survival_quorum;
 use settings::less;
 
 // A step's answer, and the record that it leaves.
 pub struct Stepped {
     pub answer: Answer,
     pub rec: Recorder,
-}
-
-// The open leases at a reading: does one that has ended lack grants, and which have not ended.
-struct Sifted {
-    lacking: bool,
-    count: u64,
-    sends: [u64; 64],
-}
-
-// The record at a step's event, or that of a recorder that has stopped.
-struct Advanced {
-    goes_on: bool,
-    rec: Recorder,
 }
 
 fn higher_of(x: u64, y: u64) -> u64
@@ -59,7 +46,7 @@ fn step_refusal(s: Settings, rec: Recorder, reading: u64) -> u32
     if !has_form(s, rec) {
         return 3;
     }
-    if (TOP_READING < reading) | (reading < rec.last_reading) {
+    if bad_reading(rec.last_reading, reading) {
         4
     } else {
         0
@@ -84,86 +71,13 @@ fn grant_refusal(s: Settings, rec: Recorder, reading: u64, observer: u64, number
     }
 }
 
-// ---- Every accepted step
-
-// The observers that have granted `number` or higher.
-fn granted_from(grants: [u64; 16], number: u64) -> [bool; 16]
-    ensures { λ r. ⌜ r ≡ map (λ grant. number ≤? grant) grants ⌝ }
+fn refusal_of(s: Settings, rec: Recorder, reading: u64, event: RecorderEvent) -> u32
+    ensures { λ r. ⌜ r ≡ first (refusalsOf s rec reading event) ⌝ }
 {
-    let mut set = [false; 16];
-    for i in 0..16 {
-        set[i] = number <= grants[i];
-    }
-    set
-}
-
-// Has a survival quorum granted `number` or higher?
-fn is_granted(s: Settings, rec: Recorder, number: u64) -> bool
-    ensures { λ r. ⌜ r ≡ survives s (granted rec number) ⌝ }
-{
-    let grants = rec.grants;
-    let set = granted_from(grants, number);
-    contains_survival_quorum(s, set)
-}
-
-// Each open lease i with reading - send ≥ P has ended: lease i + 1 must then have its grants. One pass; a quorum is counted
-// only for leases that have ended.
-fn sift(s: Settings, rec: Recorder, reading: u64) -> Sifted
-    requires { ⌜ Bounded rec ⌝ }
-    ensures { λ r. ⌜ SiftedAt s rec reading r ⌝ }
-{
-    let open_leases = rec.open_leases as usize;
-    let oldest = rec.counter - rec.open_leases + 1;
-    let places = rec.sends;
-    let mut lacks = false;
-    let mut count: usize = 0;
-    let mut sends = [0u64; 64];
-    for i in 0..open_leases {
-        let send = places[i];
-        if s.recorder_lease <= less(reading, send) {
-            let number = oldest + (i as u64);
-            lacks = lacks | !is_granted(s, rec, number + 1);
-        } else {
-            sends[count] = send;
-            count += 1;
-        }
-    }
-    Sifted {
-        lacking: lacks,
-        count: count as u64,
-        sends,
-    }
-}
-
-// Stopped first, then the ended leases: only a step that goes on from here comes to its event.
-fn advance(s: Settings, rec: Recorder, reading: u64) -> Advanced
-    requires { ⌜ Bounded rec ⌝ }
-    ensures { λ r. ⌜ r ≡ advancedTo s rec reading ⌝ }
-{
-    if rec.stopped != 0 {
-        return Advanced {
-            goes_on: false,
-            rec,
-        };
-    }
-    let left = sift(s, rec, reading);
-    if left.lacking {
-        let mut halted = rec;
-        halted.stopped = 1;
-        halted.last_reading = reading;
-        return Advanced {
-            goes_on: false,
-            rec: halted,
-        };
-    }
-    let places = left.sends;
-    let mut cleared = rec;
-    cleared.last_reading = reading;
-    cleared.open_leases = left.count;
-    cleared.sends = places;
-    Advanced {
-        goes_on: true,
-        rec: cleared,
+    match event {
+        RecorderEvent::Tick => step_refusal(s, rec, reading),
+        RecorderEvent::Grant(observer, number) => grant_refusal(s, rec, reading, observer, number),
+        RecorderEvent::Drive => step_refusal(s, rec, reading),
     }
 }
 
@@ -173,10 +87,10 @@ fn advance(s: Settings, rec: Recorder, reading: u64) -> Advanced
 fn word_of(s: Settings, rec: Recorder) -> Answer
     ensures { λ r. ⌜ said r ≡ standing s rec ⌝ }
 {
-    if is_granted(s, rec, 1) {
-        Answer::Running
+    if is_granted_above(s, rec, 0) {
+        Answer::Say(Word::Running)
     } else {
-        Answer::Unregistered
+        Answer::Say(Word::Unregistered)
     }
 }
 
@@ -204,7 +118,7 @@ fn tick_event(s: Settings, rec: Recorder, reading: u64) -> Stepped
 
 // Grant: rule 3.9.
 fn grant_event(s: Settings, rec: Recorder, observer: u64, number: u64) -> Stepped
-    requires { ⌜ observer < 16 ⌝ }
+    requires { ⌜ observer < mostObservers ⌝ }
     ensures { λ r. ⌜ outcome r ≡ grantEvent s observer number rec ⌝ }
 {
     let grants = rec.grants;
@@ -226,69 +140,39 @@ fn drive_event(s: Settings, rec: Recorder) -> Stepped
     Stepped { answer, rec }
 }
 
-// ---- Steps: refusals first, then what every accepted step does, only then the event
-
-// Rule 2.2.
-fn refuse(rec: Recorder, number: u32) -> Stepped
-    ensures { λ r. ⌜ outcome r ≡ (refuses number leaving rec) ⌝ }
+// What the event does with the record at it, once the ended leases are gone. An accepted grant has its place.
+fn event_of(s: Settings, rec: Recorder, reading: u64, event: RecorderEvent) -> Stepped
+    requires { ⌜ Ready s rec reading event ⌝ }
+    ensures { λ r. ⌜ outcome r ≡ eventOf s reading event rec ⌝ }
 {
-    let answer = Answer::Refused(number);
-    Stepped { answer, rec }
-}
-
-pub fn tick(s: Settings, rec: Recorder, reading: u64) -> Stepped
-    ensures { λ r. ⌜ outcome r ≡ tickOf s rec reading ⌝ }
-{
-    let refused = step_refusal(s, rec, reading);
-    if refused != 0 {
-        return refuse(rec, refused);
-    }
-    let at_tick = advance(s, rec, reading);
-    let asking = at_tick.rec;
-    if at_tick.goes_on {
-        tick_event(s, asking, reading)
-    } else {
-        Stepped {
-            answer: Answer::Stopped,
-            rec: asking,
-        }
+    match event {
+        RecorderEvent::Tick => tick_event(s, rec, reading),
+        RecorderEvent::Grant(observer, number) => grant_event(s, rec, observer, number),
+        RecorderEvent::Drive => drive_event(s, rec),
     }
 }
 
-pub fn grant(s: Settings, rec: Recorder, reading: u64, observer: u64, number: u64) -> Stepped
-    ensures { λ r. ⌜ outcome r ≡ grantOf s rec reading observer number ⌝ }
-{
-    let refused = grant_refusal(s, rec, reading, observer, number);
-    if refused != 0 {
-        return refuse(rec, refused);
-    }
-    let at_grant = advance(s, rec, reading);
-    let granting = at_grant.rec;
-    if at_grant.goes_on {
-        grant_event(s, granting, observer, number)
-    } else {
-        Stepped {
-            answer: Answer::Stopped,
-            rec: granting,
-        }
-    }
-}
+// ---- Steps
 
-pub fn drive(s: Settings, rec: Recorder, reading: u64) -> Stepped
-    ensures { λ r. ⌜ outcome r ≡ driveOf s rec reading ⌝ }
+// Refusals first (rule 2.2), then what every accepted step does, only then the event.
+pub fn step(s: Settings, rec: Recorder, reading: u64, event: RecorderEvent) -> Stepped
+    ensures { λ r. ⌜ outcome r ≡ stepOf s rec reading event ⌝ }
 {
-    let refused = step_refusal(s, rec, reading);
+    let refused = refusal_of(s, rec, reading, event);
     if refused != 0 {
-        return refuse(rec, refused);
+        return Stepped {
+            answer: Answer::Refused(refused),
+            rec,
+        };
     }
-    let at_drive = advance(s, rec, reading);
-    let driving = at_drive.rec;
-    if at_drive.goes_on {
-        drive_event(s, driving)
+    let at_event = advance(s, rec, reading);
+    let going_on = at_event.rec;
+    if at_event.goes_on {
+        event_of(s, going_on, reading, event)
     } else {
         Stepped {
-            answer: Answer::Stopped,
-            rec: driving,
+            answer: Answer::Say(Word::Stopped),
+            rec: going_on,
         }
     }
 }

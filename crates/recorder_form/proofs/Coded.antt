@@ -1,5 +1,5 @@
--- The form as the code tests it: the conditions in 01's order, joined from the left. Where the counter is 0 the zeros of the
--- places follow from other conditions. Assumes nothing.
+-- The form as the code tests it: the conditions in the order of rule 3.2, joined from the left. Where the counter is 0 the
+-- zeros of the places follow from other conditions. Assumes nothing.
 use Prim.Native.Nat.{ℕ, zero, suc, _-_, _≤_, _<_}
 use native.Mathlib.Omega.{arith}
 use mathlib.Core.Path.{_≡_, refl, sym, ap, ap₂, _∙_}
@@ -66,10 +66,12 @@ module _ (s : Settings) (rec : Recorder) where
   all-zero z e =
       let holds = every-anywhere (λ condition. condition) true refl (later s rec) e in
       rw z
-      (spare (isZero (rec .stopped)) (isZero (lastSend rec)) (isZero (openLeases rec)) (every isZero (rec .sends)) (every isZero (rec .grants))
+      (spare (isZero (rec .stopped)) (isZero (lastSend rec)) (isZero (openLeases rec)) (every isZero (rec .sends))
+      (every isZero (rec .grants))
       (λ none. (
         rw (eqb-true (openLeases rec) 0 none) at (holds 0),
-        sym (none-above-zero (rec .grants)) ∙ ap (λ (k : ℕ). every (λ grant. grant ≤? k) (rec .grants)) (sym (eqb-true (rec .counter) 0 z)) ∙ holds 2,
+        sym (none-above-zero (rec .grants)) ∙ ap (λ (k : ℕ). every (λ grant. grant ≤? k) (rec .grants))
+            (sym (eqb-true (rec .counter) 0 z)) ∙ holds 2,
       )))
 
   third : every (λ condition. condition) (later s rec) ≡ true
@@ -89,7 +91,8 @@ module _ (s : Settings) (rec : Recorder) where
   as-coded h =
       rw (le-leb (openLeases rec) 64 h)
       (ap (λ (b : Bool). (rec .counter ≤? topCounter) && ((rec .stopped ≤? 1) && b))
-      (same-under (not (isZero (rec .counter)) || allZero rec) (not (isZero (rec .counter)) || numbersZero rec) (every (λ condition. condition) (later s rec)) third))
+      (same-under (not (isZero (rec .counter)) || allZero rec) (not (isZero (rec .counter)) || numbersZero rec)
+      (every (λ condition. condition) (later s rec)) third))
       ∙ sym (joined-every true (conditions s rec))
 
   pub too-many : 64 < openLeases rec → hasForm s rec ≡ false

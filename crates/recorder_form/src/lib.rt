@@ -2,22 +2,25 @@
 ghost use mathlib.Core.Path.{_≡_};
 ghost use Prim.Native.Nat.{_-_, _≤_};
 ghost use lib.ListN.{take, drop};
+ghost use Rattle.settings.specs.Settings.{mostLeases};
 ghost use Rattle.words.specs.Tests.{_<?_, _≤?_};
 ghost use Rattle.words.specs.Lists.{every};
 ghost use Rattle.recorder_rules.specs.Recorder.{isZero, spaced, hasForm};
 use messages::TOP_COUNTER;
 use messages::TOP_READING;
 use recorder_rules::Recorder;
+use settings::MOST_LEASES;
+use settings::MOST_OBSERVERS;
 use settings::Settings;
 use settings::less;
 
 // Are the places of leases from `first` on unused?
-fn sends_unused(sends: [u64; 64], first: usize) -> bool
+fn sends_unused(sends: [u64; MOST_LEASES], first: usize) -> bool
     ensures { λ r. ⌜ r ≡ every isZero (drop first sends) ⌝ }
 {
     let mut ok = true;
     let mut i = first;
-    while i < 64 {
+    while i < MOST_LEASES {
         ok = ok & (sends[i] == 0);
         i += 1;
     }
@@ -25,31 +28,31 @@ fn sends_unused(sends: [u64; 64], first: usize) -> bool
 }
 
 // Are the places of grants from `first` on unused?
-fn grants_unused(grants: [u64; 16], first: usize) -> bool
+fn grants_unused(grants: [u64; MOST_OBSERVERS], first: usize) -> bool
     ensures { λ r. ⌜ r ≡ every isZero (drop first grants) ⌝ }
 {
     let mut ok = true;
     let mut i = first;
-    while i < 16 {
+    while i < MOST_OBSERVERS {
         ok = ok & (grants[i] == 0);
         i += 1;
     }
     ok
 }
 
-fn grants_at_most(grants: [u64; 16], counter: u64) -> bool
+fn grants_at_most(grants: [u64; MOST_OBSERVERS], counter: u64) -> bool
     ensures { λ r. ⌜ r ≡ every (λ grant. grant ≤? counter) grants ⌝ }
 {
     let mut ok = true;
-    for i in 0..16 {
+    for i in 0..MOST_OBSERVERS {
         ok = ok & (grants[i] <= counter);
     }
     ok
 }
 
 // Are the first `count` send readings at least `interval` apart?
-fn sends_apart(sends: [u64; 64], count: usize, interval: u64) -> bool
-    requires { ⌜ count ≤ 64 ⌝ }
+fn sends_apart(sends: [u64; MOST_LEASES], count: usize, interval: u64) -> bool
+    requires { ⌜ count ≤ mostLeases ⌝ }
     ensures { λ r. ⌜ r ≡ spaced interval (take count sends) ⌝ }
 {
     let mut ok = true;
@@ -62,8 +65,8 @@ fn sends_apart(sends: [u64; 64], count: usize, interval: u64) -> bool
 }
 
 // Are the first `count` leases younger than `lease` at a reading?
-fn sends_young(sends: [u64; 64], count: usize, lease: u64, reading: u64) -> bool
-    requires { ⌜ count ≤ 64 ⌝ }
+fn sends_young(sends: [u64; MOST_LEASES], count: usize, lease: u64, reading: u64) -> bool
+    requires { ⌜ count ≤ mostLeases ⌝ }
     ensures { λ r. ⌜ r ≡ every (λ send. reading - send <? lease) (take count sends) ⌝ }
 {
     let mut ok = true;
@@ -77,7 +80,7 @@ fn sends_young(sends: [u64; 64], count: usize, lease: u64, reading: u64) -> bool
 pub fn has_form(s: Settings, rec: Recorder) -> bool
     ensures { λ r. ⌜ r ≡ hasForm s rec ⌝ }
 {
-    if 64 < rec.open_leases {
+    if (MOST_LEASES as u64) < rec.open_leases {
         return false;
     }
     let sends = rec.sends;

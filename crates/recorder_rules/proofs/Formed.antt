@@ -92,17 +92,22 @@ module _ (s : Settings) (rec : Recorder) where
       record {
         counter-top = leb-true _ _ (is 0);
         flag = leb-true _ _ (is 1);
-        before-first = λ z. all-zero rec (second-holds (not (isZero (rec .counter))) (allZero rec) (is 2) (ap not (eq-eqb _ 0 z)));
+        before-first =
+            λ z. all-zero rec (second-holds (not (isZero (rec .counter))) (allZero rec) (is 2) (ap not (eq-eqb _ 0 z)));
         sends-unused = zero-from (openLeases rec) (rec .sends) (is 3);
         grants-unused = zero-from (n s) (rec .grants) (is 4);
         grants-counter = λ x.
-            leb-true _ _ (every-anywhere (λ grant. grant ≤? rec .counter) 0 (le-leb 0 (rec .counter) zero-le) (rec .grants) (is 5) x);
+            leb-true _ _ (every-anywhere (λ grant. grant ≤? rec .counter) 0 (le-leb 0 (rec .counter) zero-le) (rec .grants)
+            (is 5)
+            x);
         some-lease = λ h. leb-true _ _ (second-holds (isZero (rec .counter)) (1 ≤? openLeases rec) (is 6) (not-zero _ h));
         leases-places = leb-true _ _ (is 7);
         leases-counter = leb-true _ _ (is 8);
         apart = is 9;
         newest = λ h.
-            eqb-true _ _ (second-holds (isZero (rec .counter)) (getD (rec .sends) (openLeases rec - 1) 0 =? lastSend rec) (is 10) (not-zero _ h));
+            eqb-true _ _ (second-holds (isZero (rec .counter)) (getD (rec .sends) (openLeases rec - 1) 0 =? lastSend rec)
+            (is 10)
+            (not-zero _ h));
         counter-send = leb-true _ _ (is 11);
         send-reading = leb-true _ _ (is 12);
         reading-top = leb-true _ _ (is 13);
@@ -116,7 +121,8 @@ module _ (s : Settings) (rec : Recorder) where
   has-form f =
       holds-both (le-leb _ _ (f .counter-top))
       (holds-both (le-leb _ _ (f .flag))
-      (holds-both (holds-either (not (isZero (rec .counter))) (λ z. zero-all rec (f .before-first (eqb-true _ 0 (not-false _ z)))))
+      (holds-both (holds-either (not (isZero (rec .counter)))
+      (λ z. zero-all rec (f .before-first (eqb-true _ 0 (not-false _ z)))))
       (holds-both (from-zero (openLeases rec) (rec .sends) (f .sends-unused))
       (holds-both (from-zero (n s) (rec .grants) (f .grants-unused))
       (holds-both (holds-every (λ grant. grant ≤? rec .counter) 0 (rec .grants) (λ x h. le-leb _ _ (f .grants-counter x)))
@@ -129,5 +135,6 @@ module _ (s : Settings) (rec : Recorder) where
       (holds-both (le-leb _ _ (f .send-reading))
       (holds-both (le-leb _ _ (f .reading-top))
       (holds-both (holds-either (not (isZero (rec .stopped)))
-      (λ z. holds-every (λ send. lastReading rec - send <? P s) 0 (leases rec) (λ i h. lt-ltb _ _ (f .youth (eqb-true _ 0 (not-false _ z)) i h))))
+      (λ z. holds-every (λ send. lastReading rec - send <? P s) 0 (leases rec)
+      (λ i h. lt-ltb _ _ (f .youth (eqb-true _ 0 (not-false _ z)) i h))))
       refl))))))))))))))

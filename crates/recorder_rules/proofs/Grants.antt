@@ -2,24 +2,26 @@
 use Prim.Native.Nat.{ℕ, _≤_}
 use native.Mathlib.Nat.{le-refl}
 use native.Mathlib.Omega.{arith}
-use mathlib.Core.Path.{_≡_, refl, sym, ap, _∙_}
+use mathlib.Core.Path.{_≡_, sym, ap, _∙_}
 use mathlib.Core.Logic.{_⊎_, inl, inr}
-use mathlib.Core.Bool.{Bool, true, false}
+use mathlib.Core.Bool.{Bool, false}
 use mathlib.Core.List.{List}
-use lib.ListN.{length, getD, set, List·getD-map}
-use lib.Seq.{getD-set-same, getD-set-other, set-out}
-use borrow.Author.Tests.{ltb-true, ltb-false, eqb-true, eqb-false, lt-leb}
-use Rattle.words.specs.Tests.{_<?_, _≤?_, _=?_}
-use Rattle.words.proofs.Conditions.{chosen}
+use lib.ListN.{getD, set, List·getD-map}
+use borrow.Author.Tests.{ltb-true, ltb-false, lt-leb}
+use Rattle.words.specs.Tests.{_<?_, _≤?_}
+use Rattle.words.proofs.Booleans.{whether}
+use Rattle.words.proofs.Walks.{after-store}
 use Rattle.messages.specs.Outcomes.{Outcome}
 use Rattle.recorder_rules.specs.declared.Recorder.{Recorder}
-use Rattle.recorder_rules.specs.Recorder.{granted, higher, advanced, due, tickEvent, grantEvent, driveEvent, Event}
-use Rattle.recorder_rules.specs.Recorder.Event.{tick, grant, drive}
+use Rattle.recorder_rules.specs.Recorder.{granted, higher, advanced, due, tickEvent, grantEvent, driveEvent, eventOf}
+use Rattle.recorder_rules.specs.declared.RecorderEvent.{RecorderEvent as Event}
+use Rattle.recorder_rules.specs.declared.RecorderEvent.the-variants.{Tick as tick, Grant as grant, Drive as drive}
 use Rattle.recorder_rules.specs.Claims.{GrantsNeverFall}
-use Rattle.recorder_rules.proofs.Ways.{eventOf, each-way}
+use Rattle.recorder_rules.proofs.Ways.{each-way}
 
 -- whether observer x has granted a number is seen in its place
-pub granted-at : (rec : Recorder) (number x : ℕ) → 1 ≤ number → getD (granted rec number) x false ≡ (number ≤? getD (rec .grants) x 0)
+pub granted-at : (rec : Recorder) (number x : ℕ) → 1 ≤ number
+    → getD (granted rec number) x false ≡ (number ≤? getD (rec .grants) x 0)
 granted-at rec number x h =
     ap (λ (past : Bool). getD (granted rec number) x past) (sym (lt-leb number 0 h))
     ∙ List·getD-map (λ grant. number ≤? grant) (rec .grants) x 0
@@ -27,22 +29,11 @@ granted-at rec number x h =
 -- the greater number is none but one of the two, and below neither
 pub higher-least : (j k : ℕ) → (j ≤ higher j k) × (k ≤ higher j k)
 higher-least j k =
-    chosen (λ (v : ℕ). (j ≤ v) × (k ≤ v)) (j <? k) (λ less. (omega (arith, ltb-true, less), le-refl k)) (λ less. (le-refl j, ltb-false j k less))
+    whether (λ (v : ℕ). (j ≤ v) × (k ≤ v)) (j <? k) (λ less. (omega (arith, ltb-true, less), le-refl k))
+    (λ less. (le-refl j, ltb-false j k less))
 
 pub higher-below : (j k : ℕ) {top : ℕ} → j ≤ top → k ≤ top → higher j k ≤ top
-higher-below j k {top} p q = chosen (λ (v : ℕ). v ≤ top) (j <? k) (λ _. q) (λ _. p)
-
--- a place after a store at x: what was there, or what was stored
-pub after-store : (xs : List ℕ) (x v y : ℕ) → (getD (set xs x v) y 0 ≡ getD xs y 0) ⊎ ((y ≡ x) × (getD (set xs x v) y 0 ≡ v))
-after-store xs x v y = by (y =? x) (x <? length xs) refl refl
-  where
-    by : (same within : Bool) → (y =? x) ≡ same → (x <? length xs) ≡ within
-        → (getD (set xs x v) y 0 ≡ getD xs y 0) ⊎ ((y ≡ x) × (getD (set xs x v) y 0 ≡ v))
-    by false within e h = inl (getD-set-other xs x y v 0 (eqb-false y x e))
-    by true false e h = inl (ap (λ (l : List ℕ). getD l y 0) (set-out xs x v (ltb-false _ _ h)))
-    by true true e h =
-        let here = eqb-true y x e in
-        inr (here, rw here (getD-set-same xs x v 0 (ltb-true _ _ h)))
+higher-below j k {top} p q = whether (λ (v : ℕ). v ≤ top) (j <? k) (λ _. q) (λ _. p)
 
 pub grants-never-fall : GrantsNeverFall
 unfolding advanced tickEvent grantEvent driveEvent
@@ -62,6 +53,8 @@ grants-never-fall s rec r event x =
     stored y v h (inr w) = rw (w .1, w .0) h
 
     by : (event : Event) → getD (rec .grants) x 0 ≤ getD (eventOf s r event (advanced s rec r) .rec .grants) x 0
-    by tick = chosen (λ (outcome : Outcome Recorder). getD (rec .grants) x 0 ≤ getD (outcome .rec .grants) x 0) (due s rec r) (λ _. le-refl _) (λ _. le-refl _)
-    by (grant y j) = stored y _ (higher-least (getD (rec .grants) y 0) j .0) (after-store (rec .grants) y _ x)
+    by tick =
+        whether (λ (outcome : Outcome Recorder). getD (rec .grants) x 0 ≤ getD (outcome .rec .grants) x 0) (due s rec r)
+        (λ _. le-refl _) (λ _. le-refl _)
+    by (grant y j) = stored y _ (higher-least (getD (rec .grants) y 0) j .0) (after-store 0 (rec .grants) y _ x)
     by drive = le-refl _

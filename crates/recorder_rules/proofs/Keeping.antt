@@ -4,33 +4,34 @@ use native.Mathlib.Nat.{le-refl, le-trans, le-of-eq, not-suc-le-zero}
 use native.Mathlib.Omega.{arith}
 use mathlib.Core.Path.{_≡_, refl, ap, _∙_}
 use mathlib.Core.Logic.{_⊎_, inl, inr}
-use mathlib.Core.Bool.{Bool, true, false, _&&_, not}
+use mathlib.Core.Bool.{Bool, true, false, _||_, not}
 use mathlib.Core.List.{[], _∷_, _++_}
 use lib.ListN.{length, getD, set, replicate, length-append, length-set, List·getD-append}
 use lib.Seq.{take-at, getD-append-seam, getD-set-other}
 use borrow.Author.Tests.{leb-true, ltb-true, ltb-false, eqb-true}
 use Rattle.words.specs.Tests.{_<?_, _≤?_, _=?_}
 use Rattle.words.specs.Lists.{every}
-use Rattle.words.specs.Said.{Said, number}
-use Rattle.words.proofs.Booleans.{not-both}
-use Rattle.words.proofs.Conditions.{second-holds, chosen}
+use Rattle.words.specs.Said.{number}
+use Rattle.words.proofs.Booleans.{not-both, whether}
+use Rattle.words.proofs.Conditions.{second-holds}
 use Rattle.settings.specs.declared.Settings.{Settings}
 use Rattle.settings.specs.Settings.{n, η, P, refusalOf}
 use Rattle.settings.proofs.Laws.{accepted-in-range}
-use Rattle.messages.specs.Answers.{Spoken}
 use Rattle.messages.specs.Outcomes.{Outcome}
-use Rattle.messages.proofs.Outcomes.{never-given}
+use Rattle.words.proofs.Said.{never-given}
+use Rattle.words.proofs.Walks.{after-store}
 use Rattle.recorder_rules.specs.declared.Recorder.{Recorder}
-use Rattle.recorder_rules.specs.Recorder.{lastSend, lastReading, openLeases, leases, isZero, spaced, hasForm, kept, lacking, advanced, halted, due, requesting, higher, granting, tickEvent, grantEvent, driveEvent, registered, standing, stepOf, fresh, Event}
-use Rattle.recorder_rules.specs.Recorder.Event.{tick, grant, drive}
+use Rattle.recorder_rules.specs.Recorder.{lastSend, lastReading, openLeases, leases, isZero, spaced, hasForm, kept, lacking, advanced, halted, due, requesting, higher, granting, tickEvent, grantEvent, driveEvent, stepOf, fresh, refusalsOf, eventOf}
+use Rattle.recorder_rules.specs.declared.RecorderEvent.{RecorderEvent as Event}
+use Rattle.recorder_rules.specs.declared.RecorderEvent.the-variants.{Tick as tick, Grant as grant, Drive as drive}
 use Rattle.recorder_rules.specs.Claims.{Sized, FormIsKept, PlacesSuffice}
 use Rattle.recorder_rules.proofs.Formed.{Formed, formed, has-form, not-zero, positive}
 use Rattle.recorder_rules.proofs.Spacing.{spaced-more, kept-length, kept-young, kept-spaced, kept-last}
 use Rattle.recorder_rules.proofs.Room.{leases-length, leases-last, room-advanced}
 use Rattle.recorder_rules.proofs.Placing.{zeros, placed-unused, placed-back, placed-length}
-use Rattle.recorder_rules.proofs.Grants.{higher-below, after-store}
+use Rattle.recorder_rules.proofs.Grants.{higher-below}
 use Rattle.recorder_rules.proofs.Lacking.{none-lacks, newest-kept}
-use Rattle.recorder_rules.proofs.Ways.{refusalsOf, eventOf, Passes, Allowed, allowed, allowed-grant, each-way}
+use Rattle.recorder_rules.proofs.Ways.{Passes, Allowed, allowed, allowed-grant, each-way, each-answer}
 
 module _ (s : Settings) (rec : Recorder) (r : ℕ) where
   reading-advanced : lastReading (advanced s rec r) ≡ r
@@ -120,7 +121,8 @@ module _ (s : Settings) (rec : Recorder) (r : ℕ) (ok : Allowed s rec r) (sized
 module _ (s : Settings) (rec : Recorder) (r : ℕ) (accepted : refusalOf s ≡ 0) (f : Formed s rec) (sized : Sized rec)
     (now : lastReading rec ≡ r) (is-due : due s rec r ≡ true) (place : openLeases rec < 64) where
   far-enough : 1 ≤ rec .counter → η s ≤ r - lastSend rec
-  far-enough some = leb-true _ _ (second-holds (isZero (rec .counter)) (η s ≤? r - lastSend rec) is-due (not-zero (rec .counter) some))
+  far-enough some =
+      leb-true _ _ (second-holds (isZero (rec .counter)) (η s ≤? r - lastSend rec) is-due (not-zero (rec .counter) some))
 
   -- the counter rises no faster than the reading
   counter-reading : rec .counter ≤ r
@@ -142,7 +144,8 @@ module _ (s : Settings) (rec : Recorder) (r : ℕ) (accepted : refusalOf s ≡ 0
   pub requesting-sized : Sized (requesting rec r)
   requesting-sized = record { sends = placed-length (leases rec ++ (r ∷ [])) (omega (arith, one-more)); grants = sized .grants }
 
-  young-all : rec .stopped ≡ 0 → (i : ℕ) → i < length (leases rec ++ (r ∷ [])) → lastReading rec - getD (leases rec ++ (r ∷ [])) i 0 < P s
+  young-all : rec .stopped ≡ 0 → (i : ℕ) → i < length (leases rec ++ (r ∷ []))
+      → lastReading rec - getD (leases rec ++ (r ∷ [])) i 0 < P s
   young-all running i h = by (i <? length (leases rec)) refl
     where
       by : (old : Bool) → (i <? length (leases rec)) ≡ old → lastReading rec - getD (leases rec ++ (r ∷ [])) i 0 < P s
@@ -151,7 +154,8 @@ module _ (s : Settings) (rec : Recorder) (r : ℕ) (accepted : refusalOf s ≡ 0
           rw (List·getD-append (leases rec) (r ∷ []) 0 i within) (f .youth running i within)
       by false e =
           let range = accepted-in-range s accepted in
-          let last : i ≡ length (leases rec) = omega (arith, ltb-false i (length (leases rec)) e, length-append (leases rec) (r ∷ [])) in
+          let last : i ≡ length (leases rec) =
+          omega (arith, ltb-false i (length (leases rec)) e, length-append (leases rec) (r ∷ [])) in
           rw (last, getD-append-seam (leases rec) r [] 0) (omega arith)
 
   pub requesting-formed : Formed s (requesting rec r)
@@ -185,7 +189,8 @@ module _ (s : Settings) (rec : Recorder) (r : ℕ) (accepted : refusalOf s ≡ 0
       }
 
 -- a grant that was asked for
-module _ (s : Settings) (rec : Recorder) (f : Formed s rec) (x j : ℕ) (is-observer : x < n s) (some : 1 ≤ j) (asked : j ≤ rec .counter) where
+module _ (s : Settings) (rec : Recorder) (f : Formed s rec) (x j : ℕ) (is-observer : x < n s) (some : 1 ≤ j)
+    (asked : j ≤ rec .counter) where
   pub granting-formed : Formed s (granting rec x j)
   granting-formed =
       record {
@@ -194,7 +199,7 @@ module _ (s : Settings) (rec : Recorder) (f : Formed s rec) (x j : ℕ) (is-obse
         before-first = λ z. let no : ⊥ = omega arith in absurd no;
         sends-unused = f .sends-unused;
         grants-unused = λ y h. getD-set-other (rec .grants) x y v 0 (λ e. omega arith) ∙ f .grants-unused y h;
-        grants-counter = λ y. by y (after-store (rec .grants) x v y);
+        grants-counter = λ y. by y (after-store 0 (rec .grants) x v y);
         some-lease = f .some-lease;
         leases-places = f .leases-places;
         leases-counter = f .leases-counter;
@@ -209,7 +214,8 @@ module _ (s : Settings) (rec : Recorder) (f : Formed s rec) (x j : ℕ) (is-obse
       v : ℕ
       v = higher (getD (rec .grants) x 0) j
 
-      by : (y : ℕ) → (getD (set (rec .grants) x v) y 0 ≡ getD (rec .grants) y 0) ⊎ ((y ≡ x) × (getD (set (rec .grants) x v) y 0 ≡ v))
+      by : (y : ℕ)
+          → (getD (set (rec .grants) x v) y 0 ≡ getD (rec .grants) y 0) ⊎ ((y ≡ x) × (getD (set (rec .grants) x v) y 0 ≡ v))
           → getD (set (rec .grants) x v) y 0 ≤ rec .counter
       by y (inl e) = rw e (f .grants-counter y)
       by y (inr w) = rw (w .1) (higher-below (getD (rec .grants) x 0) j (f .grants-counter x) asked)
@@ -220,14 +226,15 @@ pub record Good (s : Settings) (rec : Recorder) : Type 0 where
   pub size : Sized rec
 
 -- what the events leave, once the ended leases are gone
-module _ (s : Settings) (rec : Recorder) (r : ℕ) (ok : Allowed s rec r) (sized : Sized rec) (running : rec .stopped ≡ 0) (goes : lacking s rec r ≡ false) where
+module _ (s : Settings) (rec : Recorder) (r : ℕ) (ok : Allowed s rec r) (sized : Sized rec) (running : rec .stopped ≡ 0)
+    (goes : lacking s rec r ≡ false) where
   cleared : Good s (advanced s rec r)
   cleared = record { form = advanced-formed s rec r ok sized running goes; size = advanced-sized s rec r ok sized running goes }
 
   pub event-good : (event : Event) → Passes s rec r event → Good s (eventOf s r event (advanced s rec r) .rec)
   unfolding tickEvent grantEvent driveEvent
   event-good tick passes =
-      chosen (λ (outcome : Outcome Recorder). Good s (outcome .rec)) (due s (advanced s rec r) r)
+      whether (λ (outcome : Outcome Recorder). Good s (outcome .rec)) (due s (advanced s rec r) r)
       (λ is-due.
       let place = room-advanced s rec r (ok .settings) (has-form s rec (ok .form)) (sized .sends) is-due in
       let now = reading-advanced s rec r in
@@ -240,7 +247,8 @@ module _ (s : Settings) (rec : Recorder) (r : ℕ) (ok : Allowed s rec r) (sized
       let g = allowed-grant s rec r x j passes in
       record {
         form = granting-formed s (advanced s rec r) (cleared .form) x j (g .0) (g .1) (rw (counter-advanced s rec r) (g .2));
-        size = record { sends = cleared .size .sends; grants = length-set (advanced s rec r .grants) x _ ∙ cleared .size .grants };
+        size =
+            record { sends = cleared .size .sends; grants = length-set (advanced s rec r .grants) x _ ∙ cleared .size .grants };
       }
   event-good drive passes = cleared
 
@@ -255,7 +263,8 @@ step-good s rec r event good =
             form = halted-formed s rec r (allowed s rec r event passes) (good .size) lacks;
             size = record { sends = good .size .sends; grants = good .size .grants };
           };
-      going-on = λ passes running goes. event-good s rec r (allowed s rec r event passes) (good .size) running goes event passes;
+      going-on =
+          λ passes running goes. event-good s rec r (allowed s rec r event passes) (good .size) running goes event passes;
     })
 
 -- a fresh record
@@ -283,34 +292,25 @@ fresh-formed s =
 
 -- no line of refusal 3 applies to a record of the form
 no-line-three : (s : Settings) (rec : Recorder) (r : ℕ) (event : Event) → hasForm s rec ≡ true
-    → every (λ line. not ((line .no =? 3) && line .applies)) (refusalsOf s rec r event) ≡ true
+    → every (λ line. not (line .no =? 3) || not (line .applies)) (refusalsOf s rec r event) ≡ true
 unfolding every
 no-line-three s rec r tick e = rw e
 no-line-three s rec r (grant x j) e = rw e
 no-line-three s rec r drive e = rw e
 
--- the events refuse nothing
-standing-given : (s : Settings) (rec : Recorder) → number (standing s rec) ≡ 0
-unfolding standing number
-standing-given s rec = chosen (λ (answer : Said Spoken). number answer ≡ 0) (registered s rec) (λ _. refl) (λ _. refl)
-
-event-given : (s : Settings) (r : ℕ) (event : Event) (rec : Recorder) → number (eventOf s r event rec .answer) ≡ 0
-unfolding tickEvent grantEvent driveEvent number
-event-given s r tick rec =
-    chosen (λ (outcome : Outcome Recorder). number (outcome .answer) ≡ 0) (due s rec r) (λ _. refl) (λ _. standing-given s rec)
-event-given s r (grant x j) rec = standing-given s (granting rec x j)
-event-given s r drive rec = standing-given s rec
-
 -- so a record of the form is never refused by 3
-never-three : (s : Settings) (rec : Recorder) (r : ℕ) (event : Event) → hasForm s rec ≡ true → number (stepOf s rec r event .answer) ≡ 3 → ⊥
+never-three : (s : Settings) (rec : Recorder) (r : ℕ) (event : Event) → hasForm s rec ≡ true
+    → number (stepOf s rec r event .answer) ≡ 3 → ⊥
 unfolding number
 never-three s rec r event e =
     each-way s rec r event (λ outcome. number (outcome .answer) ≡ 3 → ⊥)
     (record {
-      refused = λ _. never-given 3 (refusalsOf s rec r event) (λ z. omega arith) (no-line-three s rec r event e);
+      refused = λ _. never-given 3 (λ z. omega arith) (refusalsOf s rec r event) (no-line-three s rec r event e);
       stopped = λ _ _ z. omega arith;
       stopping = λ _ _ _ z. omega arith;
-      going-on = λ _ _ _ z. let none = event-given s r event (advanced s rec r) in omega arith;
+      going-on = λ _ _ _ z.
+          let none = each-answer (λ answer. number answer ≡ 0) refl refl (λ _. refl) s r event (advanced s rec r) in
+          omega arith;
     })
 
 pub form-is-kept : FormIsKept
@@ -337,7 +337,9 @@ counter-rises s rec r event =
     })
   where
     by : (event : Event) → rec .counter ≤ eventOf s r event (advanced s rec r) .rec .counter
-    by tick = chosen (λ (outcome : Outcome Recorder). rec .counter ≤ outcome .rec .counter) (due s rec r) (λ _. omega arith) (λ _. le-refl _)
+    by tick =
+        whether (λ (outcome : Outcome Recorder). rec .counter ≤ outcome .rec .counter) (due s rec r) (λ _. omega arith)
+        (λ _. le-refl _)
     by (grant x j) = le-refl _
     by drive = le-refl _
 

@@ -12,8 +12,8 @@ use Rattle.words.specs.Tests.{_≤?_}
 use Rattle.words.proofs.Booleans.{neither-holds}
 use Rattle.settings.specs.declared.Settings.{Settings}
 use Rattle.settings.specs.Settings.{P, refusalOf}
-use Rattle.settings.specs.Quorums.{survives}
-use Rattle.settings.proofs.Quorums.{a-survivor}
+use Rattle.quorums.specs.Quorums.{survives}
+use Rattle.quorums.proofs.Quorums.{a-survivor}
 use Rattle.recorder_rules.specs.declared.Recorder.{Recorder}
 use Rattle.recorder_rules.specs.Recorder.{lastSend, openLeases, leases, oldest, granted, hasEnded, kept, lackingFrom, lacking}
 use Rattle.recorder_rules.proofs.Formed.{Formed}
@@ -47,25 +47,28 @@ module _ (s : Settings) (rec : Recorder) (r : ℕ) where
   unfolding lacking lackingFrom
   none-lacks e = rw e
 
-  module _ (accepted : refusalOf s ≡ 0) (f : Formed s rec) (sized : length (rec .sends) ≡ 64) (e : lacking s rec r ≡ false) where
-    pub newest-young : 1 ≤ openLeases rec → r - lastSend rec < P s
-    newest-young some = by (P s ≤? r - lastSend rec) refl
-      where
-        number : ℕ
-        number = oldest rec + (length (leases rec) - 1) + 1
+  module _ (accepted : refusalOf s ≡ 0) (f : Formed s rec) (sized : length (rec .sends) ≡ 64) (e : lacking s rec r ≡ false)
+    where
+      pub newest-young : 1 ≤ openLeases rec → r - lastSend rec < P s
+      newest-young some = by (P s ≤? r - lastSend rec) refl
+        where
+          number : ℕ
+          number = oldest rec + (length (leases rec) - 1) + 1
 
-        by : (over : Bool) → (P s ≤? r - lastSend rec) ≡ over → r - lastSend rec < P s
-        by false u = leb-false _ _ u
-        by true u =
-            let counted = leases-length s rec sized f in
-            let past = rw (sym (leases-last s rec sized f some)) at (leb-true (P s) (r - lastSend rec) u) in
-            let x = a-survivor s accepted (granted rec number) (ended-granted e (length (leases rec) - 1) (omega arith) past) in
-            let asked : number ≤ getD (rec .grants) (x .0) 0 = leb-true _ _ (sym (granted-at rec number (x .0) (omega arith)) ∙ x .2) in
-            let z : ⊥ = omega (arith, f .grants-counter (x .0), f .leases-counter) in
-            absurd z
+          by : (over : Bool) → (P s ≤? r - lastSend rec) ≡ over → r - lastSend rec < P s
+          by false u = leb-false _ _ u
+          by true u =
+              let counted = leases-length s rec sized f in
+              let past = rw (sym (leases-last s rec sized f some)) at (leb-true (P s) (r - lastSend rec) u) in
+              let x = a-survivor s accepted (granted rec number) (ended-granted e (length (leases rec) - 1) (omega arith) past) in
+              let asked : number ≤ getD (rec .grants) (x .0) 0 =
+              leb-true _ _ (sym (granted-at rec number (x .0) (omega arith)) ∙ x .2) in
+              let z : ⊥ = omega (arith, f .grants-counter (x .0), f .leases-counter) in
+              absurd z
 
-    -- so the newest lease is not removed
-    pub newest-kept : 1 ≤ openLeases rec → 1 ≤ length (kept s r (leases rec))
-    newest-kept some =
-        let counted = leases-length s rec sized f in
-        kept-some s r (leases rec) (length (leases rec) - 1) (omega arith) (rw (leases-last s rec sized f some) (newest-young some))
+      -- so the newest lease is not removed
+      pub newest-kept : 1 ≤ openLeases rec → 1 ≤ length (kept s r (leases rec))
+      newest-kept some =
+          let counted = leases-length s rec sized f in
+          kept-some s r (leases rec) (length (leases rec) - 1) (omega arith)
+          (rw (leases-last s rec sized f some) (newest-young some))

@@ -10,3 +10,4 @@ pub mod Staying
 pub mod Keeping
 pub mod Steps
 pub mod Places
+pub mod Answers

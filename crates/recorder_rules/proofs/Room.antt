@@ -39,7 +39,8 @@ module _ (s : Settings) (rec : Recorder) (sized : length (rec .sends) ≡ 64) (f
   pub leases-last : 1 ≤ openLeases rec → getD (leases rec) (length (leases rec) - 1) 0 ≡ lastSend rec
   leases-last some =
       rw leases-length
-      (getD-take (openLeases rec) (rec .sends) (openLeases rec - 1) 0 (omega arith) ∙ f .newest (omega (arith, f .leases-counter)))
+      (getD-take (openLeases rec) (rec .sends) (openLeases rec - 1) 0 (omega arith) ∙ f .newest
+      (omega (arith, f .leases-counter)))
 
 pub room : (s : Settings) (rec : Recorder) (r : ℕ) → refusalOf s ≡ 0 → hasForm s rec ≡ true → length (rec .sends) ≡ 64
     → due s rec r ≡ true → length (kept s r (leases rec)) < 64
@@ -54,7 +55,8 @@ room s rec r ok e sized is-due =
     (λ some.
     let open-lease : 1 ≤ openLeases rec = omega arith in
     rw (kept-last s r h xs (f .apart) some, leases-last s rec sized f open-lease)
-    (leb-true _ _ (second-holds (isZero (rec .counter)) (η s ≤? r - lastSend rec) is-due (not-zero (rec .counter) (omega (arith, f .leases-counter))))))
+    (leb-true _ _ (second-holds (isZero (rec .counter)) (η s ≤? r - lastSend rec) is-due
+    (not-zero (rec .counter) (omega (arith, f .leases-counter))))))
 
 -- the same of the record from which the ended leases are gone
 pub room-advanced : (s : Settings) (rec : Recorder) (r : ℕ) → refusalOf s ≡ 0 → hasForm s rec ≡ true → length (rec .sends) ≡ 64

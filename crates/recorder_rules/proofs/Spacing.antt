@@ -9,8 +9,8 @@ use lib.ListN.{length, getD, drop}
 use lib.Seq.{getD-drop}
 use borrow.Author.Tests.{leb-true, leb-false, ltb-true, ltb-false, le-leb}
 use Rattle.words.specs.Tests.{_≤?_}
-use Rattle.words.proofs.Booleans.{both-hold}
-use Rattle.words.proofs.Conditions.{holds-both, chosen}
+use Rattle.words.proofs.Booleans.{both-hold, whether}
+use Rattle.words.proofs.Conditions.{holds-both}
 use Rattle.settings.specs.declared.Settings.{Settings}
 use Rattle.settings.specs.Settings.{η, P}
 use Rattle.recorder_rules.specs.Recorder.{spaced, hasEnded, kept}
@@ -41,7 +41,8 @@ module _ (apart : ℕ) where
       holds-both (parts .0) (spaced-more (y ∷ ys) z (parts .1) (λ some. rw last-of-rest far))
 
   -- each is as far below the next
-  pub spaced-at : 1 ≤ apart → (xs : List ℕ) → spaced apart xs ≡ true → (i : ℕ) → suc i < length xs → getD xs i 0 + apart ≤ getD xs (suc i) 0
+  pub spaced-at : 1 ≤ apart → (xs : List ℕ) → spaced apart xs ≡ true → (i : ℕ) → suc i < length xs
+      → getD xs i 0 + apart ≤ getD xs (suc i) 0
   unfolding spaced
   spaced-at h [] e i within = absurd (not-suc-le-zero within)
   spaced-at h (x ∷ []) e i within = absurd (not-suc-le-zero (le-of-suc-le-suc within))
@@ -67,14 +68,15 @@ module _ (s : Settings) (r : ℕ) where
   kept-length [] = omega arith
   kept-length (x ∷ xs) =
       let rest = kept-length xs in
-      chosen (λ (l : List ℕ). length l ≤ suc (length xs)) (hasEnded s r x) (λ _. omega (arith, rest)) (λ _. omega (arith, rest))
+      whether (λ (l : List ℕ). length l ≤ suc (length xs)) (hasEnded s r x) (λ _. omega (arith, rest))
+      (λ _. omega (arith, rest))
 
   -- what is kept is young
   pub kept-young : (xs : List ℕ) (i : ℕ) → i < length (kept s r xs) → r - getD (kept s r xs) i 0 < P s
   unfolding kept
   kept-young [] = λ i h. absurd (not-suc-le-zero h)
   kept-young (x ∷ xs) =
-      chosen (λ (l : List ℕ). (i : ℕ) → i < length l → r - getD l i 0 < P s) (hasEnded s r x) (λ over. kept-young xs)
+      whether (λ (l : List ℕ). (i : ℕ) → i < length l → r - getD l i 0 < P s) (hasEnded s r x) (λ over. kept-young xs)
       (λ lasts. with-first (kept s r xs) (omega (arith, leb-false, ltb-false, lasts)) (kept-young xs))
     where
       with-first : (ys : List ℕ) → r - x < P s → ((i : ℕ) → i < length ys → r - getD ys i 0 < P s)
@@ -87,10 +89,10 @@ module _ (s : Settings) (r : ℕ) where
   unfolding kept
   kept-some [] i h young = absurd (not-suc-le-zero h)
   kept-some (x ∷ xs) zero h young =
-      chosen (λ (l : List ℕ). 1 ≤ length l) (hasEnded s r x)
+      whether (λ (l : List ℕ). 1 ≤ length l) (hasEnded s r x)
       (λ over. let z : ⊥ = omega (arith, leb-true, ltb-true, over) in absurd z) (λ lasts. omega arith)
   kept-some (x ∷ xs) (suc i) h young =
-      chosen (λ (l : List ℕ). 1 ≤ length l) (hasEnded s r x)
+      whether (λ (l : List ℕ). 1 ≤ length l) (hasEnded s r x)
       (λ over. kept-some xs i (le-of-suc-le-suc h) young) (λ lasts. omega arith)
 
   -- after a young one all are young
@@ -101,7 +103,7 @@ module _ (s : Settings) (r : ℕ) where
       let parts = both-hold (η s ≤? y - x) (spaced (η s) (y ∷ ys)) e in
       let step = leb-true (η s) (y - x) (parts .0) in
       let young′ : r - y < P s = omega arith in
-      chosen (λ (l : List ℕ). l ≡ y ∷ ys) (hasEnded s r y)
+      whether (λ (l : List ℕ). l ≡ y ∷ ys) (hasEnded s r y)
       (λ over. let z : ⊥ = omega (arith, leb-true, ltb-true, over) in absurd z)
       (λ lasts. ap (λ (l : List ℕ). y ∷ l) (after-young h y ys (parts .1) young′))
 
@@ -113,7 +115,7 @@ module _ (s : Settings) (r : ℕ) where
   unfolding kept
   kept-newest h [] e = refl
   kept-newest h (x ∷ xs) e =
-      chosen (λ (l : List ℕ). l ≡ drop (suc (length xs) - length l) (x ∷ xs)) (hasEnded s r x)
+      whether (λ (l : List ℕ). l ≡ drop (suc (length xs) - length l) (x ∷ xs)) (hasEnded s r x)
       (λ over.
       let fewer = kept-length xs in
       let one-more : suc (length xs) - length (kept s r xs) ≡ suc (ended xs) = omega arith in
@@ -141,7 +143,7 @@ module _ (s : Settings) (r : ℕ) where
   unfolding kept
   ended-first h [] e = λ i below. let z : ⊥ = omega arith in absurd z
   ended-first h (x ∷ xs) e =
-      chosen (λ (l : List ℕ). (i : ℕ) → i < suc (length xs) - length l → P s ≤ r - getD (x ∷ xs) i 0) (hasEnded s r x)
+      whether (λ (l : List ℕ). (i : ℕ) → i < suc (length xs) - length l → P s ≤ r - getD (x ∷ xs) i 0) (hasEnded s r x)
       (λ over. with-first (omega (arith, leb-true, ltb-true, over)) (ended-first h xs (spaced-rest (η s) x xs e)))
       (λ lasts i below.
       let all = ap length (after-young h x xs e (omega (arith, leb-false, ltb-false, lasts))) in

@@ -7,7 +7,7 @@ use mathlib.Core.Logic.{_⊎_, inl, inr}
 use mathlib.Core.Bool.{true}
 use lib.ListN.{length, getD}
 use borrow.Author.Tests.{leb-true}
-use Rattle.settings.specs.Quorums.{survives}
+use Rattle.quorums.specs.Quorums.{survives}
 use Rattle.settings.proofs.Laws.{accepted-in-range}
 use Rattle.messages.specs.Answers.{refuses, says}
 use Rattle.recorder_rules.specs.Recorder.{leases, oldest, granted, hasEnded}

@@ -9,26 +9,27 @@ use mathlib.Core.List.{List, [], _∷_, _++_}
 use lib.ListN.{length, getD, set, length-append, List·getD-append}
 use lib.Seq.{getD-drop, getD-append-seam}
 use Rattle.words.specs.Tests.{if_then_else_, _<?_}
-use Rattle.words.specs.Said.{first, number}
-use Rattle.words.proofs.Conditions.{chosen}
+use Rattle.words.specs.Said.{number}
+use Rattle.words.proofs.Booleans.{whether}
+use Rattle.words.proofs.Walks.{after-store}
 use Rattle.settings.specs.declared.Settings.{Settings}
-use Rattle.settings.specs.Settings.{η, P}
-use Rattle.settings.specs.Quorums.{survives}
+use Rattle.settings.specs.Settings.{P}
+use Rattle.quorums.specs.Quorums.{survives}
 use Rattle.settings.proofs.Laws.{accepted-in-range}
 use Rattle.messages.specs.declared.Message.the-variants.{LeaseRequest}
-use Rattle.messages.specs.Answers.{sends as sending, refuses, says}
+use Rattle.messages.specs.Answers.{sends as sending, says}
 use Rattle.messages.specs.Outcomes.{Outcome, _leaving_}
 use Rattle.recorder_rules.specs.declared.Recorder.{Recorder}
-use Rattle.recorder_rules.specs.Recorder.{lastSend, lastReading, leases, oldest, granted, kept, lacking, advanced, due, requesting, higher, standing, tickEvent, grantEvent, driveEvent, stepOf, Event}
-use Rattle.recorder_rules.specs.Recorder.Event.{tick, grant, drive}
+use Rattle.recorder_rules.specs.Recorder.{lastReading, leases, oldest, granted, kept, lacking, advanced, due, requesting, higher, standing, tickEvent, grantEvent, driveEvent, stepOf, eventOf}
+use Rattle.recorder_rules.specs.declared.RecorderEvent.{RecorderEvent as Event}
+use Rattle.recorder_rules.specs.declared.RecorderEvent.the-variants.{Tick as tick, Grant as grant, Drive as drive}
 use Rattle.recorder_rules.specs.Claims.{Sized}
 use Rattle.recorder_rules.proofs.Formed.{Formed, has-form}
 use Rattle.recorder_rules.proofs.Spacing.{ended, kept-length, kept-newest, ended-first}
 use Rattle.recorder_rules.proofs.Room.{leases-length, room-advanced}
 use Rattle.recorder_rules.proofs.Placing.{placed-back}
-use Rattle.recorder_rules.proofs.Grants.{after-store}
 use Rattle.recorder_rules.proofs.Lacking.{ended-granted}
-use Rattle.recorder_rules.proofs.Ways.{refusalsOf, eventOf, Passes, Allowed, allowed, each-way}
+use Rattle.recorder_rules.proofs.Ways.{Passes, Allowed, allowed, each-way}
 use Rattle.recorder_rules.proofs.Keeping.{Good, step-good, advanced-formed, advanced-sized, leases-requesting}
 
 -- a step that goes on to its event
@@ -39,23 +40,13 @@ pub record Going (s : Settings) (rec : Recorder) (r : ℕ) (event : Event) : Typ
   pub outcome : stepOf s rec r event ≡ eventOf s r event (advanced s rec r)
 
 module _ (s : Settings) (rec : Recorder) (r : ℕ) (event : Event) where
-  -- a refused step leaves all as it came
-  pub refused : (Passes s rec r event → ⊥) → stepOf s rec r event ≡ (refuses (first (refusalsOf s rec r event)) leaving rec)
-  refused fails =
-      each-way s rec r event (λ outcome. outcome ≡ (refuses (first (refusalsOf s rec r event)) leaving rec))
-      (record {
-        refused = λ _. refl;
-        stopped = λ passes. absurd (fails passes);
-        stopping = λ passes. absurd (fails passes);
-        going-on = λ passes. absurd (fails passes);
-      })
-
   -- an accepted one says *stopped* and leaves the recorder stopped, or goes on
   pub stopped-or-going : Passes s rec r event
       → ((stepOf s rec r event .answer ≡ says "stopped") × (stepOf s rec r event .rec .stopped ≡ 0 → ⊥)) ⊎ Going s rec r event
   stopped-or-going passes =
       each-way s rec r event
-      (λ outcome. stepOf s rec r event ≡ outcome → ((outcome .answer ≡ says "stopped") × (outcome .rec .stopped ≡ 0 → ⊥)) ⊎ Going s rec r event)
+      (λ outcome. stepOf s rec r event ≡ outcome
+      → ((outcome .answer ≡ says "stopped") × (outcome .rec .stopped ≡ 0 → ⊥)) ⊎ Going s rec r event)
       (record {
         refused = λ fails. absurd (fails passes);
         stopped = λ _ flag _. inl (refl, flag);
@@ -64,29 +55,22 @@ module _ (s : Settings) (rec : Recorder) (r : ℕ) (event : Event) where
       })
       refl
 
-  pub going : Passes s rec r event → stepOf s rec r event .rec .stopped ≡ 0 → Going s rec r event
-  going passes on = ⊎-elim (λ w. absurd (w .1 on)) (λ g. g) (stopped-or-going passes)
-
 -- the record after it, where no request is sent
 pub record Quiet (s : Settings) (rec : Recorder) (r : ℕ) (outcome : Outcome Recorder) : Type 0 where
   pub running : outcome .rec .stopped ≡ 0
   pub reading : lastReading (outcome .rec) ≡ r
-  pub answer : outcome .answer ≡ standing s (outcome .rec)
   pub counter : outcome .rec .counter ≡ rec .counter
-  pub last-send : lastSend (outcome .rec) ≡ lastSend rec
   pub leases : leases (outcome .rec) ≡ kept s r (leases rec)
 
 -- and where one is
 pub record Asking (s : Settings) (rec : Recorder) (r : ℕ) (outcome : Outcome Recorder) : Type 0 where
   pub running : outcome .rec .stopped ≡ 0
   pub reading : lastReading (outcome .rec) ≡ r
-  pub is-due : due s rec r ≡ true
-  pub answer : outcome .answer ≡ sending (LeaseRequest (rec .counter + 1))
   pub counter : outcome .rec .counter ≡ rec .counter + 1
-  pub last-send : lastSend (outcome .rec) ≡ r
   pub leases : leases (outcome .rec) ≡ kept s r (leases rec) ++ (r ∷ [])
 
-module _ (s : Settings) (rec : Recorder) (r : ℕ) (ok : Allowed s rec r) (sized : Sized rec) (running : rec .stopped ≡ 0) (goes : lacking s rec r ≡ false) where
+module _ (s : Settings) (rec : Recorder) (r : ℕ) (ok : Allowed s rec r) (sized : Sized rec) (running : rec .stopped ≡ 0)
+    (goes : lacking s rec r ≡ false) where
   leases-advanced : leases (advanced s rec r) ≡ kept s r (leases rec)
   unfolding advanced
   leases-advanced = placed-back (kept s r (leases rec))
@@ -98,26 +82,26 @@ module _ (s : Settings) (rec : Recorder) (r : ℕ) (ok : Allowed s rec r) (sized
       record {
         running = running;
         reading = refl;
-        is-due = e;
-        answer = refl;
         counter = refl;
-        last-send = refl;
         leases =
             leases-requesting s (advanced s rec r) r (ok .settings) (advanced-formed s rec r ok sized running goes)
-            (advanced-sized s rec r ok sized running goes) refl e (room-advanced s rec r (ok .settings) (has-form s rec (ok .form)) (sized .sends) e)
+            (advanced-sized s rec r ok sized running goes) refl e
+            (room-advanced s rec r (ok .settings) (has-form s rec (ok .form)) (sized .sends) e)
             ∙ ap (λ (l : List ℕ). l ++ (r ∷ [])) leases-advanced;
       }
 
   quiet : Quiet s rec r (standing s (advanced s rec r) leaving advanced s rec r)
   unfolding advanced
-  quiet = record { running = running; reading = refl; answer = refl; counter = refl; last-send = refl; leases = leases-advanced }
+  quiet = record { running = running; reading = refl; counter = refl; leases = leases-advanced }
 
-  pub event-leaves : (event : Event) → Quiet s rec r (eventOf s r event (advanced s rec r)) ⊎ ((event ≡ tick) × Asking s rec r (eventOf s r event (advanced s rec r)))
+  pub event-leaves : (event : Event)
+      → Quiet s rec r (eventOf s r event (advanced s rec r))
+      ⊎ ((event ≡ tick) × Asking s rec r (eventOf s r event (advanced s rec r)))
   unfolding advanced tickEvent grantEvent driveEvent
   event-leaves tick =
-      chosen (λ (outcome : Outcome Recorder). Quiet s rec r outcome ⊎ ((tick ≡ tick) × Asking s rec r outcome)) (due s rec r)
+      whether (λ (outcome : Outcome Recorder). Quiet s rec r outcome ⊎ ((tick ≡ tick) × Asking s rec r outcome)) (due s rec r)
       (λ is-due. inr (refl, asking is-due)) (λ _. inl quiet)
-  event-leaves (grant x j) = inl (record { running = running; reading = refl; answer = refl; counter = refl; last-send = refl; leases = leases-advanced })
+  event-leaves (grant x j) = inl (record { running = running; reading = refl; counter = refl; leases = leases-advanced })
   event-leaves drive = inl quiet
 
 -- the lease of number i is open
@@ -163,7 +147,9 @@ module _ (s : Settings) (rec : Recorder) (r : ℕ) (event : Event) (sized : Size
       let counted-after = leases-length s (next .rec) (good .size .sends) (good .form) in
       let fewer = kept-length s r (leases rec) in
       ⊎-elim (λ q. omega (arith, ok .form .leases-counter, q .counter, ap length (q .leases)))
-      (λ a. omega (arith, ok .form .leases-counter, a .1 .counter, ap length (a .1 .leases), length-append (kept s r (leases rec)) (r ∷ [])))
+      (λ a.
+      let one-more = length-append (kept s r (leases rec)) (r ∷ []) in
+      omega (arith, ok .form .leases-counter, a .1 .counter, ap length (a .1 .leases), one-more))
       leaves
 
   -- a lease no longer open: t observers had granted the next number, before the event
@@ -190,7 +176,8 @@ module _ (s : Settings) (rec : Recorder) (r : ℕ) (event : Event) (sized : Size
       let j = i - oldest (next .rec) in
       let there : ended s r (leases rec) + j ≡ i - oldest rec = omega (arith, oldest-after) in
       kept-place j (omega (arith, oldest-after, ok .form .leases-counter))
-      ∙ ap (λ (l : List ℕ). getD l j 0) (kept-newest s r (accepted-in-range s (ok .settings) .η-least) (leases rec) (ok .form .apart))
+      ∙ ap (λ (l : List ℕ). getD l j 0)
+      (kept-newest s r (accepted-in-range s (ok .settings) .η-least) (leases rec) (ok .form .apart))
       ∙ getD-drop (ended s r (leases rec)) (leases rec) j 0
       ∙ ap (λ (k : ℕ). getD (leases rec) k 0) there
 
@@ -199,8 +186,10 @@ module _ (s : Settings) (rec : Recorder) (r : ℕ) (event : Event) (sized : Size
   sent-now a =
       let counted = leases-length s rec (sized .sends) (ok .form) in
       let fewer = kept-length s r (leases rec) in
-      let there : rec .counter + 1 - oldest (next .rec) ≡ length (kept s r (leases rec)) = omega (arith, oldest-after, ok .form .leases-counter) in
-      rw there (ap (λ (l : List ℕ). getD l (length (kept s r (leases rec))) 0) (a .leases) ∙ getD-append-seam (kept s r (leases rec)) r [] 0)
+      let there : rec .counter + 1 - oldest (next .rec) ≡ length (kept s r (leases rec)) =
+      omega (arith, oldest-after, ok .form .leases-counter) in
+      rw there (ap (λ (l : List ℕ). getD l (length (kept s r (leases rec))) 0) (a .leases)
+      ∙ getD-append-seam (kept s r (leases rec)) r [] 0)
 
 -- a place of a grant changes only by a grant from its observer, and then has that number
 pub place-after : (s : Settings) (rec : Recorder) (r : ℕ) (event : Event) (y : ℕ)
@@ -209,7 +198,8 @@ pub place-after : (s : Settings) (rec : Recorder) (r : ℕ) (event : Event) (y :
 unfolding advanced tickEvent grantEvent driveEvent
 place-after s rec r event y =
     each-way s rec r event
-    (λ outcome. (getD (outcome .rec .grants) y 0 ≡ getD (rec .grants) y 0) ⊎ ((j : ℕ) × (event ≡ grant y j) × (getD (outcome .rec .grants) y 0 ≡ j)))
+    (λ outcome. (getD (outcome .rec .grants) y 0 ≡ getD (rec .grants) y 0)
+    ⊎ ((j : ℕ) × (event ≡ grant y j) × (getD (outcome .rec .grants) y 0 ≡ j)))
     (record {
       refused = λ _. inl refl;
       stopped = λ _ _. inl refl;
@@ -219,13 +209,17 @@ place-after s rec r event y =
   where
     stored : (x j : ℕ) (greater : Bool) (v : ℕ) → v ≡ (if greater then j else getD (rec .grants) x 0)
         → (getD (set (rec .grants) x v) y 0 ≡ getD (rec .grants) y 0) ⊎ ((y ≡ x) × (getD (set (rec .grants) x v) y 0 ≡ v))
-        → (getD (set (rec .grants) x v) y 0 ≡ getD (rec .grants) y 0) ⊎ ((k : ℕ) × (grant x j ≡ grant y k) × (getD (set (rec .grants) x v) y 0 ≡ k))
+        → (getD (set (rec .grants) x v) y 0 ≡ getD (rec .grants) y 0)
+        ⊎ ((k : ℕ) × (grant x j ≡ grant y k) × (getD (set (rec .grants) x v) y 0 ≡ k))
     stored x j greater v is (inl e) = inl e
     stored x j true v is (inr w) = inr (j, ap (λ (z : ℕ). grant z j) (sym (w .0)), w .1 ∙ is)
     stored x j false v is (inr w) = inl (w .1 ∙ is ∙ ap (λ (z : ℕ). getD (rec .grants) z 0) (sym (w .0)))
 
     by : (e : Event) → (getD (eventOf s r e (advanced s rec r) .rec .grants) y 0 ≡ getD (rec .grants) y 0)
         ⊎ ((j : ℕ) × (e ≡ grant y j) × (getD (eventOf s r e (advanced s rec r) .rec .grants) y 0 ≡ j))
-    by tick = inl (chosen (λ (outcome : Outcome Recorder). getD (outcome .rec .grants) y 0 ≡ getD (rec .grants) y 0) (due s rec r) (λ _. refl) (λ _. refl))
-    by (grant x j) = stored x j (getD (rec .grants) x 0 <? j) _ refl (after-store (rec .grants) x (higher (getD (rec .grants) x 0) j) y)
+    by tick =
+        inl (whether (λ (outcome : Outcome Recorder). getD (outcome .rec .grants) y 0 ≡ getD (rec .grants) y 0) (due s rec r)
+        (λ _. refl) (λ _. refl))
+    by (grant x j) =
+        stored x j (getD (rec .grants) x 0 <? j) _ refl (after-store 0 (rec .grants) x (higher (getD (rec .grants) x 0) j) y)
     by drive = inl refl

@@ -1,37 +1,27 @@
--- The three steps as one, and the four ways that a step can go: refused, stopped already, stopping now, or going on to its
--- event. Assumes nothing.
-use Prim.Native.Nat.{ℕ, _<_, _≤_}
+-- The four ways that a step can go: refused, stopped already, stopping now, or going on to its
+-- event; and what an event is answered. Assumes nothing.
+use Prim.Native.Nat.{ℕ, _+_, _<_, _≤_}
 use mathlib.Core.Path.{_≡_, refl}
-use mathlib.Core.Bool.{true, false, not}
-use mathlib.Core.List.{List}
-use borrow.Author.Tests.{leb-false, ltb-false, eqb-true, eqb-false, not-true, not-false}
-use Rattle.words.specs.Tests.{_<?_}
+use mathlib.Core.Bool.{true, false, _||_, not}
+use mathlib.Core.List.{[], _∷_}
+use borrow.Author.Tests.{leb-false, ltb-false, eqb-true, eqb-false, not-true, not-false, le-ltb, lt-leb}
+use Rattle.words.specs.Tests.{_<?_, _≤?_}
 use Rattle.words.specs.Lists.{every}
-use Rattle.words.specs.Said.{Refusal, first}
-use Rattle.words.proofs.Booleans.{neither-holds}
-use Rattle.words.proofs.Conditions.{chosen}
-use Rattle.words.proofs.Said.{none-applies}
+use Rattle.words.specs.Said.{Said, first, _when_}
+use Rattle.words.proofs.Booleans.{neither-holds, whether}
+use Rattle.words.proofs.Said.{none-applies, both-pass, passes-on}
 use Rattle.settings.specs.declared.Settings.{Settings}
 use Rattle.settings.specs.Settings.{n, refusals, refusalOf}
 use Rattle.messages.specs.Messages.{topReading}
-use Rattle.messages.specs.Answers.{refuses, says}
+use Rattle.messages.specs.declared.Message.the-variants.{LeaseRequest}
+use Rattle.messages.specs.Answers.{Spoken, refuses, sends, says}
 use Rattle.messages.specs.Outcomes.{Outcome, _leaving_}
-use Rattle.messages.proofs.Outcomes.{either-way, both-pass}
+use Rattle.messages.proofs.Outcomes.{either-way}
 use Rattle.recorder_rules.specs.declared.Recorder.{Recorder}
-use Rattle.recorder_rules.specs.Recorder.{lastReading, isZero, stepRefusals, grantRefusals, lacking, advanced, halted, accepted, tickEvent, grantEvent, driveEvent, tickOf, grantOf, driveOf, stepOf, Event}
-use Rattle.recorder_rules.specs.Recorder.Event.{tick, grant, drive}
-use Rattle.recorder_rules.proofs.Formed.{Formed, formed, positive}
-
--- an event's table of refusals, and what it does once the ended leases are gone
-abbrev pub refusalsOf : Settings → Recorder → (r : ℕ) → Event → List Refusal
-refusalsOf s rec r tick = stepRefusals s rec r
-refusalsOf s rec r (grant x j) = grantRefusals s rec r x j
-refusalsOf s rec r drive = stepRefusals s rec r
-
-abbrev pub eventOf : Settings → (r : ℕ) → Event → Recorder → Outcome Recorder
-eventOf s r tick = tickEvent s r
-eventOf s r (grant x j) = grantEvent s x j
-eventOf s r drive = driveEvent s
+use Rattle.recorder_rules.specs.Recorder.{lastReading, isZero, stepRefusals, grantRefusals, lacking, advanced, halted, accepted, due, granting, registered, standing, tickEvent, grantEvent, driveEvent, refusalsOf, eventOf, stepOf}
+use Rattle.recorder_rules.specs.declared.RecorderEvent.{RecorderEvent as Event}
+use Rattle.recorder_rules.specs.declared.RecorderEvent.the-variants.{Tick as tick, Grant as grant, Drive as drive}
+use Rattle.recorder_rules.proofs.Formed.{Formed, formed, has-form, not-zero, positive}
 
 -- no line of the table applies
 abbrev pub Passes : Settings → Recorder → (r : ℕ) → Event → Type 0
@@ -69,6 +59,20 @@ module _ (s : Settings) (rec : Recorder) (r : ℕ) where
       let number = neither-holds (isZero j) (rec .counter <? j) (none-applies (grantRefusals s rec r x j) e refl 5) in
       (leb-false _ _ (none-applies (grantRefusals s rec r x j) e refl 4), positive j (number .0), ltb-false _ _ (number .1))
 
+  -- and the other way round
+  pub step-passes : Allowed s rec r → first (stepRefusals s rec r) ≡ 0
+  unfolding refusalOf first every
+  step-passes ok =
+      let fine = none-applies (refusals s) (ok .settings) refl in
+      let last = le-ltb r (lastReading rec) (ok .reading-last) in
+      rw (fine 0, fine 1, has-form s rec (ok .form), le-ltb topReading r (ok .reading-top), last)
+
+  pub grant-passes : (x j : ℕ) → Allowed s rec r → x < n s → 1 ≤ j → j ≤ rec .counter → first (grantRefusals s rec r x j) ≡ 0
+  unfolding first every
+  grant-passes x j ok there some known =
+      passes-on (stepRefusals s rec r) (5 when (n s ≤? x) ∷ 6 when (isZero j || (rec .counter <? j)) ∷ []) refl (step-passes ok)
+      (rw (lt-leb (n s) x there, not-zero j some, le-ltb (rec .counter) j known))
+
 -- what holds of an outcome, whichever way the step goes
 pub record Ways (s : Settings) (rec : Recorder) (r : ℕ) (event : Event) (Q : Outcome Recorder → Type 0) : Type 0 where
   pub refused : (Passes s rec r event → ⊥) → Q (refuses (first (refusalsOf s rec r event)) leaving rec)
@@ -80,14 +84,30 @@ module _ (s : Settings) (rec : Recorder) (r : ℕ) (event : Event) (Q : Outcome 
   when-accepted : Ways s rec r event Q → Passes s rec r event → Q (accepted s rec r (eventOf s r event))
   unfolding accepted
   when-accepted w passes =
-      chosen Q (not (isZero (rec .stopped))) (λ flag. w .stopped passes (eqb-false _ 0 (not-true _ flag)))
+      whether Q (not (isZero (rec .stopped))) (λ flag. w .stopped passes (eqb-false _ 0 (not-true _ flag)))
       (λ flag.
       let running = eqb-true _ 0 (not-false _ flag) in
-      chosen Q (lacking s rec r) (w .stopping passes running) (w .going-on passes running))
+      whether Q (lacking s rec r) (w .stopping passes running) (w .going-on passes running))
 
 pub each-way : (s : Settings) (rec : Recorder) (r : ℕ) (event : Event) (Q : Outcome Recorder → Type 0)
     → Ways s rec r event Q → Q (stepOf s rec r event)
-unfolding stepOf tickOf grantOf driveOf
-each-way s rec r tick Q w = either-way (refusalsOf s rec r tick) rec _ Q (w .refused) (when-accepted s rec r tick Q w)
-each-way s rec r (grant x j) Q w = either-way (refusalsOf s rec r (grant x j)) rec _ Q (w .refused) (when-accepted s rec r (grant x j) Q w)
-each-way s rec r drive Q w = either-way (refusalsOf s rec r drive) rec _ Q (w .refused) (when-accepted s rec r drive Q w)
+unfolding stepOf
+each-way s rec r event Q w =
+    either-way (refusalsOf s rec r event) rec _ Q (w .refused) (when-accepted s rec r event Q w)
+
+-- what holds of both words holds of what is said where nothing is sent
+pub stands : (Q : Said Spoken → Type 0) → Q (says "running") → Q (says "unregistered") → (s : Settings) (rec : Recorder)
+    → Q (standing s rec)
+unfolding standing
+stands Q runs waits s rec = whether Q (registered s rec) (λ _. runs) (λ _. waits)
+
+-- and with a request of what an event is answered
+pub each-answer : (Q : Said Spoken → Type 0) → Q (says "running") → Q (says "unregistered")
+    → ((c : ℕ) → Q (sends (LeaseRequest c)))
+    → (s : Settings) (r : ℕ) (event : Event) (rec : Recorder) → Q (eventOf s r event rec .answer)
+unfolding tickEvent grantEvent driveEvent
+each-answer Q runs waits asks s r tick rec =
+    whether (λ (out : Outcome Recorder). Q (out .answer)) (due s rec r) (λ _. asks (rec .counter + 1))
+    (λ _. stands Q runs waits s rec)
+each-answer Q runs waits asks s r (grant x j) rec = stands Q runs waits s (granting rec x j)
+each-answer Q runs waits asks s r drive rec = stands Q runs waits s rec

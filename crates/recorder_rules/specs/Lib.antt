@@ -1,3 +1,3 @@
--- Document 01, "Recorder".
+-- Rules 3: the recorder.
 pub mod Recorder
 pub mod Claims

@@ -7,13 +7,15 @@ use Rattle.words.specs.Tests.{if_then_else_, _<?_, _≤?_, _=?_}
 use Rattle.words.specs.Lists.{every}
 use Rattle.words.specs.Said.{Said, Refusal, _when_}
 use Rattle.settings.specs.declared.Settings.{Settings}
-use Rattle.settings.specs.Settings.{n, η, P, refusals}
-use Rattle.settings.specs.Quorums.{survives}
+use Rattle.settings.specs.Settings.{n, η, P, mostObservers, mostLeases, refusals}
+use Rattle.quorums.specs.Quorums.{survives}
 use Rattle.messages.specs.declared.Message.the-variants.{LeaseRequest}
 use Rattle.messages.specs.Messages.{topCounter, topReading}
 use Rattle.messages.specs.Answers.{Spoken, sends as sending, says}
 use Rattle.messages.specs.Outcomes.{Outcome, _leaving_, unlessRefused, badReading}
 use Rattle.recorder_rules.specs.declared.Recorder.{Recorder}
+use Rattle.recorder_rules.specs.declared.RecorderEvent.{RecorderEvent}
+use Rattle.recorder_rules.specs.declared.RecorderEvent.the-variants.{Tick, Grant, Drive}
 
 -- ---- Record
 
@@ -30,7 +32,7 @@ openLeases rec = rec .«open_leases»
 abbrev pub leases : Recorder → List ℕ
 leases rec = take (openLeases rec) (rec .sends)
 
--- the number of the oldest: "the open leases are the last numbers up to the counter"
+-- the number of the oldest: the open leases carry the last numbers up to the counter
 abbrev pub oldest : Recorder → ℕ
 oldest rec = rec .counter - openLeases rec + 1
 
@@ -68,7 +70,7 @@ form s rec =
     ∷ every isZero (drop (n s) (rec .grants))
     ∷ every (λ grant. grant ≤? rec .counter) (rec .grants)
     ∷ (isZero (rec .counter) || (1 ≤? openLeases rec))
-    ∷ (openLeases rec ≤? 64)
+    ∷ (openLeases rec ≤? mostLeases)
     ∷ (openLeases rec ≤? rec .counter)
     ∷ spaced (η s) (leases rec)
     ∷ (isZero (rec .counter) || (getD (rec .sends) (openLeases rec - 1) 0 =? lastSend rec))
@@ -92,11 +94,11 @@ grantRefusals s rec r x j =
 
 -- ---- Every accepted step
 
--- "Each open lease i with r - send ≥ P has ended"
+-- rule 3.5
 abbrev pub hasEnded : Settings → (r send : ℕ) → Bool
 hasEnded s r send = P s ≤? r - send
 
--- "if fewer than t observers have granted i + 1 or higher": some ended lease, of those numbered from i on, lacks grants
+-- rule 3.6: some ended lease, of those numbered from i on, lacks the grants of the next number
 unfoldable pub lackingFrom : Settings → Recorder → (r i : ℕ) → List ℕ → Bool
 lackingFrom s rec r i [] = false
 lackingFrom s rec r i (send ∷ sends) =
@@ -105,14 +107,14 @@ lackingFrom s rec r i (send ∷ sends) =
 unfoldable pub lacking : Settings → Recorder → (r : ℕ) → Bool
 lacking s rec r = lackingFrom s rec r (oldest rec) (leases rec)
 
--- "else it is removed"
+-- rule 3.7: those that have not ended
 unfoldable pub kept : Settings → (r : ℕ) → List ℕ → List ℕ
 kept s r [] = []
 kept s r (send ∷ sends) = if hasEnded s r send then kept s r sends else send ∷ kept s r sends
 
--- open leases in their 64 places, unused ones 0
+-- open leases in their places, unused ones 0
 abbrev pub placed : List ℕ → List ℕ
-placed sends = sends ++ replicate (64 - length sends) 0
+placed sends = sends ++ replicate (mostLeases - length sends) 0
 
 -- the last reading is r, and the ended leases are gone
 unfoldable pub advanced : Settings → Recorder → (r : ℕ) → Recorder
@@ -127,7 +129,7 @@ advanced s rec r =
       grants = rec .grants;
     }
 
--- "stops for good (only the flag and the last reading change)"
+-- rule 3.6: only the flag and the last reading change
 abbrev pub halted : Recorder → (r : ℕ) → Recorder
 halted rec r =
     record {
@@ -153,15 +155,15 @@ accepted s rec r event =
 unfoldable pub registered : Settings → Recorder → Bool
 registered s rec = survives s (granted rec 1)
 
--- "Where no message is sent the answer is *running* if .. registered, else *unregistered*"
+-- rule 3.11
 unfoldable pub standing : Settings → Recorder → Said Spoken
 standing s rec = if registered s rec then says "running" else says "unregistered"
 
--- tick: "if the counter is 0, or r - last send ≥ η"
+-- rule 3.8: at the first tick, and η after the last send
 abbrev pub due : Settings → Recorder → (r : ℕ) → Bool
 due s rec r = isZero (rec .counter) || (η s ≤? r - lastSend rec)
 
--- "the counter rises by 1 and that LEASE-REQUEST goes to all observers": one more open lease
+-- rule 3.8: one more open lease
 abbrev pub requesting : Recorder → (r : ℕ) → Recorder
 requesting rec r =
     record {
@@ -183,7 +185,7 @@ tickEvent s r rec =
 abbrev pub higher : ℕ → ℕ → ℕ
 higher j k = if j <? k then k else j
 
--- grant j from observer x: "its place keeps the greater number"
+-- rule 3.9: the place of x keeps the greater number
 abbrev pub granting : Recorder → (x j : ℕ) → Recorder
 granting rec x j =
     record {
@@ -205,27 +207,21 @@ driveEvent s rec = standing s rec leaving rec
 
 -- ---- Steps
 
-unfoldable pub tickOf : Settings → Recorder → (r : ℕ) → Outcome Recorder
-tickOf s rec r = unlessRefused (stepRefusals s rec r) rec (accepted s rec r (tickEvent s r))
+-- an event's table of refusals, and what it does once the ended leases are gone
+abbrev pub refusalsOf : Settings → Recorder → (r : ℕ) → RecorderEvent → List Refusal
+refusalsOf s rec r Tick = stepRefusals s rec r
+refusalsOf s rec r (Grant x j) = grantRefusals s rec r x j
+refusalsOf s rec r Drive = stepRefusals s rec r
 
-unfoldable pub grantOf : Settings → Recorder → (r x j : ℕ) → Outcome Recorder
-grantOf s rec r x j = unlessRefused (grantRefusals s rec r x j) rec (accepted s rec r (grantEvent s x j))
+abbrev pub eventOf : Settings → (r : ℕ) → RecorderEvent → Recorder → Outcome Recorder
+eventOf s r Tick = tickEvent s r
+eventOf s r (Grant x j) = grantEvent s x j
+eventOf s r Drive = driveEvent s
 
-unfoldable pub driveOf : Settings → Recorder → (r : ℕ) → Outcome Recorder
-driveOf s rec r = unlessRefused (stepRefusals s rec r) rec (accepted s rec r (driveEvent s))
+unfoldable pub stepOf : Settings → Recorder → (r : ℕ) → RecorderEvent → Outcome Recorder
+stepOf s rec r event = unlessRefused (refusalsOf s rec r event) rec (accepted s rec r (eventOf s r event))
 
--- The three steps as one, by their event.
-pub data Event : Type 0 where
-  tick : Event
-  grant : (x j : ℕ) → Event
-  drive : Event
-
-unfoldable pub stepOf : Settings → Recorder → (r : ℕ) → Event → Outcome Recorder
-stepOf s rec r tick = tickOf s rec r
-stepOf s rec r (grant x j) = grantOf s rec r x j
-stepOf s rec r drive = driveOf s rec r
-
--- "A run starts with every field of every record 0."
+-- all is 0 at first
 abbrev pub fresh : Recorder
 fresh =
     record {
@@ -234,6 +230,6 @@ fresh =
       «last_send» = 0;
       «last_reading» = 0;
       «open_leases» = 0;
-      sends = replicate 64 0;
-      grants = replicate 16 0;
+      sends = replicate mostLeases 0;
+      grants = replicate mostObservers 0;
     }

@@ -1,5 +1,9 @@
 // The recorder's record and the rules of its steps. Serves rules 3: specs/Recorder.antt says what each step does,
 // specs/Claims.antt what every step keeps; the code is in `recorder`.
+use settings::MOST_LEASES;
+use settings::MOST_OBSERVERS;
+ghost use mathlib.Core.Path.{_≡_};
+ghost use Rattle.recorder_rules.specs.Recorder.{fresh};
 ghost use Rattle.recorder_rules.specs.Claims.{FormIsKept, StoppedStays, GrantsNeverFall, PlacesSuffice, NewestAreKept, EndedWereRenewed};
 
 // The record of rule 3.1, in its order: 85 numbers.
@@ -12,9 +16,32 @@ pub struct Recorder {
     pub last_reading: u64,
     pub open_leases: u64,
     // send readings of the open leases, oldest first
-    pub sends: [u64; 64],
+    pub sends: [u64; MOST_LEASES],
     // highest grant from each observer
-    pub grants: [u64; 16],
+    pub grants: [u64; MOST_OBSERVERS],
+}
+
+// What a recorder is handed: rules 3.8 to 3.10.
+pub enum RecorderEvent {
+    Tick,
+    // the observer, and the number that it grants
+    Grant(u64, u64),
+    Drive,
+}
+
+// A run starts with every number 0.
+pub fn fresh_recorder() -> Recorder
+    ensures { λ r. ⌜ r ≡ fresh ⌝ }
+{
+    Recorder {
+        stopped: 0,
+        counter: 0,
+        last_send: 0,
+        last_reading: 0,
+        open_leases: 0,
+        sends: [0; MOST_LEASES],
+        grants: [0; MOST_OBSERVERS],
+    }
 }
 
 // What every step keeps, whatever its event.

@@ -23,20 +23,23 @@ use Rattle.settings.specs.declared.Judged.{Judged}
 use Rattle.settings.specs.declared.Judged.the-variants.{Accepted as AcceptedWith, Refused}
 use Rattle.settings.specs.declared.Slacks.{Slacks}
 use Rattle.settings.specs.declared.Slacks.the-variants.{Of, Refused as OutOfRange}
-use Rattle.settings.specs.Settings.{n, t, η, Δ, P, O, rounding, ranges, values, eachIn, inRange, InRange, slackA, slackB, slackC, negative, refusalOf, window, _to_}
+use Rattle.settings.specs.Settings.{n, t, η, Δ, P, O, rounding, ranges, values, eachIn, inRange, slackA, slackB, slackC, negative, refusalOf, window, _to_}
+use Rattle.settings.specs.Parts.{InRange}
 use Rattle.settings.specs.Answers.{Values, Three, saidOf, saidOfSlacks}
 use Rattle.settings.proofs.Signed.{less-sum, below-zero}
 
 -- one row more of the table
 pub each-more : (rows : List Range) (xs : List ℕ) (i : ℕ) {all : Bool} (ok : Bool) → i < length rows → i < length xs
     → all ≡ (ok && eachIn (drop i rows) (drop i xs))
-    → all ≡ (ok && (getD rows i (0 to 0) .least ≤? getD xs i 0) && (getD xs i 0 ≤? getD rows i (0 to 0) .greatest) && eachIn (drop (i + 1) rows) (drop (i + 1) xs))
+    → all ≡ (ok && (getD rows i (0 to 0) .least ≤? getD xs i 0) && (getD xs i 0 ≤? getD rows i (0 to 0) .greatest) && eachIn
+    (drop (i + 1) rows) (drop (i + 1) xs))
 unfolding eachIn
 each-more rows xs i ok h k e =
     let l = getD rows i (0 to 0) .least ≤? getD xs i 0 in
     let g = getD xs i 0 ≤? getD rows i (0 to 0) .greatest in
     let rest = eachIn (drop (i + 1) rows) (drop (i + 1) xs) in
-    e ∙ rw (next (0 to 0) rows i h, next 0 xs i k) (sym (ap (λ (b : Bool). b && rest) (and-assoc ok l g) ∙ and-assoc ok (l && g) rest))
+    e ∙ rw (next (0 to 0) rows i h, next 0 xs i k)
+    (sym (ap (λ (b : Bool). b && rest) (and-assoc ok l g) ∙ and-assoc ok (l && g) rest))
 
 pub each-done : (rows : List Range) (xs : List ℕ) (i : ℕ) {all : Bool} (ok : Bool) → length rows ≤ i
     → all ≡ (ok && eachIn (drop i rows) (drop i xs)) → ok ≡ all
@@ -143,7 +146,7 @@ window-law s e = let slack = accepted s e in omega arith
 
 -- answers that say the same are the same
 abbrev judgedBack : Said Values → Judged
-judgedBack (refusal k) = Refused k
+judgedBack (refusal k values) = Refused k
 judgedBack (gives v) = AcceptedWith (v .W) (v .slacks .a) (v .slacks .b) (v .slacks .c)
 
 pub judged-apart : {j j′ : Judged} → saidOf j ≡ saidOf j′ → j ≡ j′
@@ -155,7 +158,7 @@ judged-apart = told-apart saidOf judgedBack same
     same (Refused k) = refl
 
 abbrev slacksBack : Said Three → Slacks
-slacksBack (refusal k) = OutOfRange k
+slacksBack (refusal k values) = OutOfRange k
 slacksBack (gives v) = Of (v .a) (v .b) (v .c)
 
 pub slacks-apart : {j j′ : Slacks} → saidOfSlacks j ≡ saidOfSlacks j′ → j ≡ j′

@@ -1,4 +1,3 @@
--- Laws of the settings: Laws and Quorums are for the crates above.
+-- Laws of the settings: Laws is for the crates above.
 pub mod Laws
-pub mod Quorums
 mod Signed

@@ -1,4 +1,4 @@
--- Document 01, "Settings".
+-- Rules 1.1 to 1.8: settings.
 pub mod Settings
 pub mod Answers
-pub mod Quorums
+pub mod Parts

@@ -1,5 +1,5 @@
 -- The seven numbers, their ranges, the three slacks, the round window, and the refusals 1 and 2.
-use Prim.Native.Nat.{ℕ, _*_, _-_, _≤_}
+use Prim.Native.Nat.{ℕ, _*_, _-_}
 use mathlib.Core.Bool.{Bool, true, _&&_, _||_, not}
 use mathlib.Core.List.{List, [], _∷_}
 use lib.IntN.{ℤ, pos, _-ℤ_}
@@ -10,7 +10,7 @@ use Rattle.words.specs.Said.{Refusal, first, _when_}
 use Rattle.settings.specs.declared.Settings.{Settings}
 use Rattle.settings.specs.declared.Range.{Range}
 
--- 01's letters
+-- the letters of rule 1.1
 abbrev pub n : Settings → ℕ
 n s = s .observers
 
@@ -32,7 +32,7 @@ O s = s .«observer_lease»
 abbrev pub G : Settings → ℕ
 G s = s .grain
 
--- settings from the seven numbers, in 01's order
+-- settings from the seven numbers, in the order of rule 1.1
 abbrev pub settings : (n t η Δ P O G : ℕ) → Settings
 settings n t η Δ P O G =
     record {
@@ -49,7 +49,14 @@ settings n t η Δ P O G =
 abbrev pub settingsOf : List ℕ → Settings
 settingsOf v = settings (getD v 0 0) (getD v 1 0) (getD v 2 0) (getD v 3 0) (getD v 4 0) (getD v 5 0) (getD v 6 0)
 
--- the settings of 01's whole case: W = 49, slacks 0, 0, 6241
+-- The places of a record: one for each observer, and one for each lease that can be open at once.
+abbrev pub mostObservers : ℕ
+mostObservers = 16
+
+abbrev pub mostLeases : ℕ
+mostLeases = 64
+
+-- the settings of the worked cases: W = 49, slacks 0, 0, 6241
 abbrev pub usual : Settings
 usual = settings 3 2 100 40 159 235 10
 
@@ -64,8 +71,8 @@ l to g = record { least = l; greatest = g }
 
 unfoldable pub ranges : List Range
 ranges =
-    1 to 16
-    ∷ 1 to 16
+    1 to mostObservers
+    ∷ 1 to mostObservers
     ∷ 1 to 1048576
     ∷ 1 to 1048576
     ∷ 1 to 16777216
@@ -94,12 +101,12 @@ abbrev pub slackB : Settings → ℤ
 slackB s = pos (O s) -ℤ pos (P s) -ℤ pos (Δ s) -ℤ pos (4 * rounding s)
 
 abbrev pub slackC : Settings → ℤ
-slackC s = pos (64 * η s) -ℤ pos (P s)
+slackC s = pos (mostLeases * η s) -ℤ pos (P s)
 
 abbrev pub negative : ℤ → Bool
 negative z = ltZ z (pos 0)
 
--- The first two lines of the table of refusals. "Settings in range are accepted exactly if no slack is negative."
+-- The first two lines of the table of refusals: settings in range are accepted exactly if no slack is below zero.
 abbrev pub refusals : Settings → List Refusal
 refusals s =
     1 when not (inRange s)
@@ -112,20 +119,3 @@ refusalOf s = first (refusals s)
 -- The round window W.
 unfoldable pub window : Settings → ℕ
 window s = O s - P s - 3 * rounding s
-
--- What "in range" says of each number, for the proofs: settings that pass `inRange` have it (`in-range` of proofs/Laws.antt).
-pub record InRange (s : Settings) : Type 0 where
-  pub n-least : 1 ≤ n s
-  pub n-greatest : n s ≤ 16
-  pub t-least : 1 ≤ t s
-  pub t-greatest : t s ≤ n s
-  pub η-least : 1 ≤ η s
-  pub η-greatest : η s ≤ 1048576
-  pub Δ-least : 1 ≤ Δ s
-  pub Δ-greatest : Δ s ≤ 1048576
-  pub P-least : 1 ≤ P s
-  pub P-greatest : P s ≤ 16777216
-  pub O-least : 1 ≤ O s
-  pub O-greatest : O s ≤ 16777216
-  pub G-least : 1 ≤ G s
-  pub G-greatest : G s ≤ 1000

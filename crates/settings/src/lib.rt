@@ -1,11 +1,10 @@
-// The seven settings: their ranges, the three slacks, the round window W, the refusals 1 and 2, and the two quorum tests. Serves
-// rules 1.
+// The seven settings: their ranges, the three slacks, the round window W, and the refusals 1 and 2. Serves rules 1.1 to 1.8.
 ghost use mathlib.Core.Path.{_≡_};
 ghost use Prim.Native.Nat.{_<_, _^_, _-_};
 ghost use lib.IntN.{pos, _-ℤ_};
-ghost use Rattle.settings.specs.Settings.{inRange, InRange, slackA, slackB, slackC, window, refusalOf, negative};
+ghost use Rattle.settings.specs.Settings.{settingsOf, rounding, inRange, slackA, slackB, slackC, window, refusalOf, negative};
+ghost use Rattle.settings.specs.Parts.{InRange};
 ghost use Rattle.settings.specs.Answers.{saidOf, judged, saidOfSlacks, slacksOf};
-ghost use Rattle.settings.specs.Quorums.{members, survives, closes, QuorumsMeet, QuorumsGrow};
 
 pub struct Settings {
     // n
@@ -28,6 +27,11 @@ pub struct Range {
     pub least: u64,
     pub greatest: u64,
 }
+
+// The places of a record: one for each observer, and one for each lease that can be open at once.
+pub const MOST_OBSERVERS: usize = 16;
+
+pub const MOST_LEASES: usize = 64;
 
 // One row a setting, in the order of rule 1.1.
 const RANGES: [Range; 7] = [
@@ -73,6 +77,21 @@ pub enum Slacks {
     Refused(u32),
 }
 
+// The settings from their seven numbers in a row.
+pub fn settings_of(values: [u64; 7]) -> Settings
+    ensures { λ r. ⌜ r ≡ settingsOf values ⌝ }
+{
+    Settings {
+        observers: values[0],
+        survival: values[1],
+        interval: values[2],
+        timeliness: values[3],
+        recorder_lease: values[4],
+        observer_lease: values[5],
+        grain: values[6],
+    }
+}
+
 fn in_range(s: Settings) -> bool
     ensures { λ r. ⌜ r ≡ inRange s ⌝ }
 {
@@ -108,13 +127,27 @@ fn is_negative(x: i64) -> bool
     x < 0
 }
 
+// x - y, or 0 where y is the greater: no record, whatever its numbers, makes a difference wrap.
+pub fn less(x: u64, y: u64) -> u64
+    ensures { λ r. ⌜ r ≡ x - y ⌝ }
+{
+    if y <= x { x - y } else { 0 }
+}
+
+// By how much a reading can lie below its clock: G - 1.
+fn rounding_of(s: Settings) -> u64
+    ensures { λ r. ⌜ r ≡ rounding s ⌝ }
+{
+    less(s.grain, 1)
+}
+
 fn slack_a(s: Settings) -> i64
     requires { ⌜ InRange s ⌝ }
     ensures { λ r. ⌜ r ≡ slackA s ⌝ }
 {
     difference(
         s.recorder_lease,
-        s.interval + s.timeliness + 2 * (s.grain - 1) + 1,
+        s.interval + s.timeliness + 2 * rounding_of(s) + 1,
     )
 }
 
@@ -124,7 +157,7 @@ fn slack_b(s: Settings) -> i64
 {
     difference(
         s.observer_lease,
-        s.recorder_lease + s.timeliness + 4 * (s.grain - 1),
+        s.recorder_lease + s.timeliness + 4 * rounding_of(s),
     )
 }
 
@@ -132,7 +165,7 @@ fn slack_c(s: Settings) -> i64
     requires { ⌜ InRange s ⌝ }
     ensures { λ r. ⌜ r ≡ slackC s ⌝ }
 {
-    difference(64 * s.interval, s.recorder_lease)
+    difference((MOST_LEASES as u64) * s.interval, s.recorder_lease)
 }
 
 // The slacks of settings in range; 1 for others.
@@ -164,18 +197,11 @@ pub fn refusal(s: Settings) -> u32
     }
 }
 
-// x - y, or 0 where y is the greater: no record, whatever its numbers, makes a difference wrap.
-pub fn less(x: u64, y: u64) -> u64
-    ensures { λ r. ⌜ r ≡ x - y ⌝ }
-{
-    if y <= x { x - y } else { 0 }
-}
-
 // The round window W, for any seven numbers.
 pub fn round_window(s: Settings) -> u64
     ensures { λ r. ⌜ r ≡ window s ⌝ }
 {
-    let rounding = less(s.grain, 1);
+    let rounding = rounding_of(s);
     let once = less(less(s.observer_lease, s.recorder_lease), rounding);
     less(less(once, rounding), rounding)
 }
@@ -195,40 +221,3 @@ pub fn judge(s: Settings) -> Judged
         c: slack_c(s),
     }
 }
-
-// How many of the n observers are in the set. One mark for each observer, by number; marks from n on count nothing.
-fn count_members(s: Settings, set: [bool; 16]) -> u64
-    ensures { λ r. ⌜ r ≡ members s set ⌝ }
-{
-    let mut count: u64 = 0;
-    for i in 0..16 {
-        if ((i as u64) < s.observers) & set[i] {
-            count += 1;
-        }
-    }
-    count
-}
-
-// Does the set contain a survival quorum?
-pub fn contains_survival_quorum(s: Settings, set: [bool; 16]) -> bool
-    ensures { λ r. ⌜ r ≡ survives s set ⌝ }
-{
-    s.survival <= count_members(s, set)
-}
-
-// Does the set contain a query quorum?
-pub fn contains_query_quorum(s: Settings, set: [bool; 16]) -> bool
-    ensures { λ r. ⌜ r ≡ closes s set ⌝ }
-{
-    less(s.observers, s.survival) < count_members(s, set)
-}
-
-// A set with a survival quorum and a set with a query quorum share an observer.
-pub fn quorums_meet()
-    ensures { λ _. ⌜ QuorumsMeet ⌝ }
-{}
-
-// A set keeps its quorums when observers are added.
-pub fn quorums_grow()
-    ensures { λ _. ⌜ QuorumsGrow ⌝ }
-{}

@@ -1,10 +1,10 @@
--- Determinacy of the public functions of `fields`.
+-- Determinacy of the public functions of `fields` and `decimals`.
 use mathlib.Core.Path.{_≡_}
 use denote.Ref.{now}
 use Rattle.settled.specs.Settled.{Settled, SettledBy}
-use Rattle.fields.proofs.read_number as read-number
-use Rattle.fields.proofs.digit_count as digit-count
-use Rattle.fields.proofs.put_number as put-number
+use Rattle.decimals.proofs.read_number as read-number
+use Rattle.decimals.proofs.digit_count as digit-count
+use Rattle.decimals.proofs.put_number as put-number
 use Rattle.fields.proofs.put_bytes as put-bytes
 use Rattle.fields.proofs.agreement as agreement
 use Rattle.fields.proofs.starts as starts

@@ -7,9 +7,6 @@ use Rattle.answer_lines.proofs.write_settings_answer as write-settings-answer
 use Rattle.session.proofs.start as start
 use Rattle.session.proofs.observer_at as observer-at
 use Rattle.session.proofs.with_observer as with-observer
-use Rattle.session.proofs.recorder_step as recorder-step
-use Rattle.session.proofs.observer_step as observer-step
-use Rattle.session.proofs.standby_step as standby-step
 use Rattle.stepfile.proofs.answer_file as answer-file
 
 pub record FilesSettled : Type 0 where
@@ -20,7 +17,4 @@ pub record FilesSettled : Type 0 where
   pub start : Settled start.Kinds.ps start.Kinds.r start.Reads.Post
   pub «observer_at» : Settled observer-at.Kinds.ps observer-at.Kinds.r observer-at.Reads.Post
   pub «with_observer» : Settled with-observer.Kinds.ps with-observer.Kinds.r with-observer.Reads.Post
-  pub «recorder_step» : Settled recorder-step.Kinds.ps recorder-step.Kinds.r recorder-step.Reads.Post
-  pub «observer_step» : Settled observer-step.Kinds.ps observer-step.Kinds.r observer-step.Reads.Post
-  pub «standby_step» : Settled standby-step.Kinds.ps standby-step.Kinds.r standby-step.Reads.Post
   pub «answer_file» : Settled answer-file.Kinds.ps answer-file.Kinds.r answer-file.Reads.Post

@@ -1,10 +1,12 @@
--- Determinacy of the public functions of `standby`.
+-- Determinacy of the public functions of `standby_form` and `standby`.
 use Rattle.settled.specs.Settled.{Settled}
-use Rattle.standby.proofs.begin as begin
-use Rattle.standby.proofs.ack as ack
-use Rattle.standby.proofs.poll as poll
+use Rattle.standby_form.proofs.is_dead as is-dead
+use Rattle.standby_form.proofs.kept_marks as kept-marks
+use Rattle.standby_form.proofs.has_form as has-form
+use Rattle.standby.proofs.step as step
 
 pub record StandbySettled : Type 0 where
-  pub begin : Settled begin.Kinds.ps begin.Kinds.r begin.Reads.Post
-  pub ack : Settled ack.Kinds.ps ack.Kinds.r ack.Reads.Post
-  pub poll : Settled poll.Kinds.ps poll.Kinds.r poll.Reads.Post
+  pub «is_dead» : Settled is-dead.Kinds.ps is-dead.Kinds.r is-dead.Reads.Post
+  pub «kept_marks» : Settled kept-marks.Kinds.ps kept-marks.Kinds.r kept-marks.Reads.Post
+  pub «has_form» : Settled has-form.Kinds.ps has-form.Kinds.r has-form.Reads.Post
+  pub step : Settled step.Kinds.ps step.Kinds.r step.Reads.Post

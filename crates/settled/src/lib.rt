@@ -11,12 +11,12 @@ ghost use Rattle.settled.specs.OfStandby.{StandbySettled};
 ghost use Rattle.settled.specs.OfFiles.{FilesSettled};
 ghost use Rattle.settled.specs.OfFirmware.{FirmwareSettled};
 
-// The public functions of `settings`.
+// The public functions of `settings`, `quorums` and `messages`.
 pub fn settings_settled()
     ensures { λ _. ⌜ SettingsSettled ⌝ }
 {}
 
-// The public functions of `fields`.
+// The public functions of `fields` and `decimals`.
 pub fn fields_settled()
     ensures { λ _. ⌜ FieldsSettled ⌝ }
 {}
@@ -26,7 +26,7 @@ pub fn lines_settled()
     ensures { λ _. ⌜ LinesSettled ⌝ }
 {}
 
-// The public functions of `recorder_form` and `recorder`.
+// The public functions of `recorder_rules`, `recorder_form`, `recorder_leases` and `recorder`.
 pub fn recorder_settled()
     ensures { λ _. ⌜ RecorderSettled ⌝ }
 {}
@@ -41,7 +41,7 @@ pub fn lent_settled()
     ensures { λ _. ⌜ LentSettled ⌝ }
 {}
 
-// The public functions of `standby`.
+// The public functions of `standby_form` and `standby`.
 pub fn standby_settled()
     ensures { λ _. ⌜ StandbySettled ⌝ }
 {}

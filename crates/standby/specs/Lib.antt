@@ -1,2 +1,3 @@
--- Document 01, "Standby".
+-- What the standby's step returns.
 pub mod Outcome
+pub mod Parts

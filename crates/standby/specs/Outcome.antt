@@ -1,4 +1,4 @@
--- A step's result as the rules speak of it: what its answer says, in 01's numbers and words, and the record.
+-- A step's result as the rules speak of it: what its answer says, and the record.
 use Rattle.messages.specs.Answers.{said}
 use Rattle.messages.specs.Outcomes.{Outcome}
 use Rattle.standby_rules.specs.declared.Standby.{Standby}

@@ -1,5 +1,7 @@
--- Laws of the standby. Refusals, Forms, Verdicts and Rounds are for the crates above.
+-- Laws of the standby, for the crates above.
 pub mod Refusals
 pub mod Forms
 pub mod Verdicts
+pub mod Ways
 pub mod Rounds
+pub mod Answers

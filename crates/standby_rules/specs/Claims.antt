@@ -5,23 +5,27 @@ use mathlib.Core.List.{List}
 use mathlib.Core.Path.{_≡_}
 use lib.ListN.{length, getD}
 use Rattle.settings.specs.declared.Settings.{Settings}
-use Rattle.settings.specs.Quorums.{closes}
+use Rattle.settings.specs.Settings.{mostObservers}
+use Rattle.quorums.specs.Quorums.{closes}
 use Rattle.messages.specs.declared.Status.the-variants.{Alive, Dead}
 use Rattle.messages.specs.Answers.{refuses, saysOf, says}
 use Rattle.standby_rules.specs.declared.Place.{Place}
 use Rattle.standby_rules.specs.declared.Standby.{Standby}
-use Rattle.standby_rules.specs.Standby.{hasForm, isOpen, lastReading, closed, unused, keptMarks, greatest, verdict, keeping, Event, begin, ack, stepWithin, fresh}
+use Rattle.standby_rules.specs.declared.StandbyEvent.{StandbyEvent}
+use Rattle.standby_rules.specs.declared.StandbyEvent.the-variants.{Begin, Ack}
+use Rattle.standby_rules.specs.Standby.{hasForm, isOpen, lastReading, closed, unused, keptMarks, greatest, verdict, keeping, stepWithin, fresh}
 
--- 16 places, as the struct has them
+-- a place for each observer, as the struct has them
 abbrev pub Sized : Standby → Type 0
-Sized q = length (q .places) ≡ 16
+Sized q = length (q .places) ≡ mostObservers
 
 -- A fresh record has the form, and every step leaves a record of the form; so a host that starts fresh never meets refusal 3.
 pub record FormIsKept : Type 0 where
   pub at-first : (s : Settings) → (hasForm s fresh ≡ true) × Sized fresh
-  pub by-steps : (w : ℕ) (s : Settings) (q : Standby) (r : ℕ) (event : Event) → Sized q → hasForm s q ≡ true
+  pub by-steps : (w : ℕ) (s : Settings) (q : Standby) (r : ℕ) (event : StandbyEvent) → Sized q → hasForm s q ≡ true
       → (hasForm s (stepWithin w s q r event .rec) ≡ true) × Sized (stepWithin w s q r event .rec)
-  pub no-three : (w : ℕ) (s : Settings) (q : Standby) (r : ℕ) (event : Event) → hasForm s q ≡ true → stepWithin w s q r event .answer ≡ refuses 3 → ⊥
+  pub no-three : (w : ℕ) (s : Settings) (q : Standby) (r : ℕ) (event : StandbyEvent) → hasForm s q ≡ true
+      → stepWithin w s q r event .answer ≡ refuses 3 → ⊥
 
 -- A closed round is all zero but its last reading.
 abbrev pub ClosedIsZero : Type 0
@@ -41,18 +45,21 @@ pub record Greatest (places : List Place) (m : ℕ) : Type 0 where
 pub record VerdictsHold : Type 0 where
   pub is-greatest : (places : List Place) → Greatest places (greatest places)
   pub dead : (places : List Place) (m : ℕ) → verdict places ≡ saysOf "dead" m
-      → (0 < m) × (m ≡ greatest places) × ((x : ℕ) × Kept places x × (getD places x unused .counter ≡ m) × (getD places x unused .status ≡ Dead))
+      → (0 < m) × (m ≡ greatest places)
+      × ((x : ℕ) × Kept places x × (getD places x unused .counter ≡ m) × (getD places x unused .status ≡ Dead))
   pub alive : (places : List Place) (m : ℕ) → verdict places ≡ saysOf "alive" m
-      → (0 < m) × (m ≡ greatest places) × ((x : ℕ) → Kept places x → getD places x unused .counter ≡ m → getD places x unused .status ≡ Alive)
+      → (0 < m) × (m ≡ greatest places) × ((x : ℕ) → Kept places x → getD places x unused .counter ≡ m
+      → getD places x unused .status ≡ Alive)
   pub unknown : (places : List Place) → verdict places ≡ says "unknown" → greatest places ≡ 0
 
 -- Dead is said only on an ack of the open round, within the window, that makes a query quorum with those kept before; the
 -- word is that quorum's verdict.
 abbrev pub DeadInWindow : Type 0
 DeadInWindow =
-    (w : ℕ) (s : Settings) (q : Standby) (r : ℕ) (event : Event) (m : ℕ) → stepWithin w s q r event .answer ≡ saysOf "dead" m
+    (w : ℕ) (s : Settings) (q : Standby) (r : ℕ) (event : StandbyEvent) (m : ℕ)
+    → stepWithin w s q r event .answer ≡ saysOf "dead" m
     → (x : ℕ) × (cnt : ℕ) × (status : Rattle.messages.specs.declared.Status.Status)
-    × (event ≡ ack x (q .ts) cnt status)
+    × (event ≡ Ack x (q .ts) cnt status)
     × (r - q .ts ≤ w)
     × (closes s (keptMarks (keeping x cnt status (q .places))) ≡ true)
     × (verdict (keeping x cnt status (q .places)) ≡ saysOf "dead" m)
@@ -60,6 +67,6 @@ DeadInWindow =
 -- What is kept of an observer stays while its round goes on: a second ack changes nothing. Only a begin forgets.
 abbrev pub KeptStays : Type 0
 KeptStays =
-    (w : ℕ) (s : Settings) (q : Standby) (r : ℕ) (event : Event) (x : ℕ) → Kept (q .places) x
-    → (event ≡ begin → ⊥) → isOpen (stepWithin w s q r event .rec) ≡ true
+    (w : ℕ) (s : Settings) (q : Standby) (r : ℕ) (event : StandbyEvent) (x : ℕ) → Kept (q .places) x
+    → (event ≡ Begin → ⊥) → isOpen (stepWithin w s q r event .rec) ≡ true
     → getD (stepWithin w s q r event .rec .places) x unused ≡ getD (q .places) x unused

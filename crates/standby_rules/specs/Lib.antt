@@ -1,3 +1,3 @@
--- Document 01, "Standby".
+-- Rules 5: the standby.
 pub mod Standby
 pub mod Claims

@@ -7,8 +7,8 @@ use Rattle.words.specs.Tests.{if_then_else_, _<?_, _≤?_, _=?_}
 use Rattle.words.specs.Lists.{every, some}
 use Rattle.words.specs.Said.{Said, Refusal, _when_}
 use Rattle.settings.specs.declared.Settings.{Settings}
-use Rattle.settings.specs.Settings.{n, window, refusals}
-use Rattle.settings.specs.Quorums.{closes}
+use Rattle.settings.specs.Settings.{n, mostObservers, window, refusals}
+use Rattle.quorums.specs.Quorums.{closes}
 use Rattle.messages.specs.declared.Status.{Status}
 use Rattle.messages.specs.declared.Status.the-variants.{Alive, Dead}
 use Rattle.messages.specs.declared.Message.the-variants.{Check}
@@ -17,6 +17,8 @@ use Rattle.messages.specs.Answers.{Spoken, sends, says, saysOf}
 use Rattle.messages.specs.Outcomes.{Outcome, _leaving_, unlessRefused, badReading}
 use Rattle.standby_rules.specs.declared.Place.{Place}
 use Rattle.standby_rules.specs.declared.Standby.{Standby}
+use Rattle.standby_rules.specs.declared.StandbyEvent.{StandbyEvent}
+use Rattle.standby_rules.specs.declared.StandbyEvent.the-variants.{Begin, Ack, Poll}
 
 -- ---- Record
 
@@ -30,7 +32,7 @@ abbrev pub unused : Place
 unused = record { kept = false; counter = 0; status = Alive }
 
 abbrev pub noPlaces : List Place
-noPlaces = replicate 16 unused
+noPlaces = replicate mostObservers unused
 
 -- the observers whose acks are kept
 abbrev pub keptMarks : List Place → List Bool
@@ -54,7 +56,7 @@ isDead Dead = true
 unfoldable pub isUnused : Place → Bool
 isUnused place = not (place .kept) && (place .counter =? 0) && not (isDead (place .status))
 
--- "each counter ≤ 2^40, unused places 0"
+-- unused, or kept with a counter in range
 unfoldable pub goodPlace : Place → Bool
 goodPlace place = isUnused place || (place .kept && (place .counter ≤? topCounter))
 
@@ -90,16 +92,18 @@ ackRefusals s q r x ts cnt =
 abbrev pub pollRefusals : Settings → Standby → (r : ℕ) → List Refusal
 pollRefusals s q r = beginRefusals s q r ++ (7 when not (isOpen q) ∷ [])
 
--- ---- Begin: "opens a round with ts = r, forgets any other, and sends CHECK ts"
+-- ---- Begin
 
-unfoldable pub beginOf : Settings → Standby → (r : ℕ) → Outcome Standby
-beginOf s q r =
-    unlessRefused (beginRefusals s q r) q
-    (sends (Check r) leaving record { «open_flag» = true; ts = r; «last_reading» = r; places = noPlaces })
+-- a round opens, and any other is forgotten
+abbrev pub opened : (r : ℕ) → Standby
+opened r = record { «open_flag» = true; ts = r; «last_reading» = r; places = noPlaces }
+
+unfoldable pub beginEvent : (r : ℕ) → Outcome Standby
+beginEvent r = sends (Check r) leaving opened r
 
 -- ---- Ack and poll
 
--- "if r - ts > W"
+-- rule 5.5
 abbrev pub isLate : (w : ℕ) → Standby → (r : ℕ) → Bool
 isLate w q r = w <? r - q .ts
 
@@ -107,7 +111,7 @@ isLate w q r = w <? r - q .ts
 abbrev pub keeping : (x cnt : ℕ) → Status → List Place → List Place
 keeping x cnt status places = set places x (record { kept = true; counter = cnt; status = status })
 
--- "m the greatest counter kept"
+-- m, the greatest counter kept
 unfoldable pub greatest : List Place → ℕ
 greatest [] = 0
 greatest (place ∷ places) =
@@ -117,51 +121,50 @@ greatest (place ∷ places) =
 abbrev pub saysDead : (m : ℕ) → Place → Bool
 saysDead m place = place .kept && isDead (place .status) && (place .counter =? m)
 
--- "m = 0: unknown. Else dead if some kept ack says Dead with m, otherwise alive; either carries m."
+-- rule 5.9: the greatest counter decides, never a count of statuses
 unfoldable pub verdict : List Place → Said Spoken
 verdict places =
     if greatest places =? 0 then says "unknown"
     else if some (saysDead (greatest places)) places then saysOf "dead" (greatest places)
     else saysOf "alive" (greatest places)
 
--- "At n - t + 1 kept, the round closes."
+-- with a query quorum of acks the round closes
 unfoldable pub afterKeeping : Settings → Standby → (r : ℕ) → List Place → Outcome Standby
 afterKeeping s q r places =
     if closes s (keptMarks places) then verdict places leaving closed r
     else says "waiting" leaving record { «open_flag» = isOpen q; ts = q .ts; «last_reading» = r; places = places }
 
 -- late and closed; or a second ack changes nothing; or a first one is kept
-unfoldable pub ackWithin : (w : ℕ) → Settings → Standby → (r x ts cnt : ℕ) → Status → Outcome Standby
-ackWithin w s q r x ts cnt status =
-    unlessRefused (ackRefusals s q r x ts cnt) q
-    (if isLate w q r then says "late" leaving closed r
+unfoldable pub ackEvent : (w : ℕ) → Settings → Standby → (r x cnt : ℕ) → Status → Outcome Standby
+ackEvent w s q r x cnt status =
+    if isLate w q r then says "late" leaving closed r
     else if getD (keptMarks (q .places)) x false then says "waiting" leaving atReading r q
-    else afterKeeping s q r (keeping x cnt status (q .places)))
+    else afterKeeping s q r (keeping x cnt status (q .places))
 
--- "Poll: late (the round closes) or waiting, by the same test"
-unfoldable pub pollWithin : (w : ℕ) → Settings → Standby → (r : ℕ) → Outcome Standby
-pollWithin w s q r =
-    unlessRefused (pollRefusals s q r) q
-    (if isLate w q r then says "late" leaving closed r else says "waiting" leaving atReading r q)
+-- late and closed, by the same test; or the round goes on
+unfoldable pub pollEvent : (w : ℕ) → Standby → (r : ℕ) → Outcome Standby
+pollEvent w q r = if isLate w q r then says "late" leaving closed r else says "waiting" leaving atReading r q
 
--- the public steps: the window is W
-abbrev pub ackOf : Settings → Standby → (r x ts cnt : ℕ) → Status → Outcome Standby
-ackOf s = ackWithin (window s) s
+-- ---- Steps
 
-abbrev pub pollOf : Settings → Standby → (r : ℕ) → Outcome Standby
-pollOf s = pollWithin (window s) s
+abbrev pub refusalsOf : Settings → Standby → (r : ℕ) → StandbyEvent → List Refusal
+refusalsOf s q r Begin = beginRefusals s q r
+refusalsOf s q r (Ack x ts cnt status) = ackRefusals s q r x ts cnt
+refusalsOf s q r Poll = pollRefusals s q r
 
--- The steps as one, by their event, within a window.
-pub data Event : Type 0 where
-  begin : Event
-  ack : (x ts cnt : ℕ) → Status → Event
-  poll : Event
+abbrev pub eventWithin : (w : ℕ) → Settings → Standby → (r : ℕ) → StandbyEvent → Outcome Standby
+eventWithin w s q r Begin = beginEvent r
+eventWithin w s q r (Ack x ts cnt status) = ackEvent w s q r x cnt status
+eventWithin w s q r Poll = pollEvent w q r
 
-unfoldable pub stepWithin : (w : ℕ) → Settings → Standby → (r : ℕ) → Event → Outcome Standby
-stepWithin w s q r begin = beginOf s q r
-stepWithin w s q r (ack x ts cnt status) = ackWithin w s q r x ts cnt status
-stepWithin w s q r poll = pollWithin w s q r
+-- within a window
+unfoldable pub stepWithin : (w : ℕ) → Settings → Standby → (r : ℕ) → StandbyEvent → Outcome Standby
+stepWithin w s q r event = unlessRefused (refusalsOf s q r event) q (eventWithin w s q r event)
 
--- "A run starts with every field of every record 0."
+-- the window is W
+abbrev pub stepOf : Settings → Standby → (r : ℕ) → StandbyEvent → Outcome Standby
+stepOf s = stepWithin (window s) s
+
+-- all is 0 at first
 abbrev pub fresh : Standby
 fresh = closed 0

@@ -1,6 +1,7 @@
-// The standby's record and the rules of its steps. Serves document 01, "Standby": specs/Standby.antt says what each step does,
+// The standby's record and the rules of its steps. Serves rules 5: specs/Standby.antt says what each step does,
 // specs/Claims.antt what every step keeps and what stands behind each verdict; the code is in `standby`.
 use messages::Status;
+use settings::MOST_OBSERVERS;
 ghost use Rattle.standby_rules.specs.Claims.{FormIsKept, ClosedIsZero, VerdictsHold, DeadInWindow, KeptStays};
 
 // What is kept of one observer's ack; an unused place is not kept, with counter 0 and Alive.
@@ -15,7 +16,15 @@ pub struct Standby {
     pub ts: u64,
     pub last_reading: u64,
     // one place an observer, by number
-    pub places: [Place; 16],
+    pub places: [Place; MOST_OBSERVERS],
+}
+
+// What a standby is handed: rules 5.4 to 5.10.
+pub enum StandbyEvent {
+    Begin,
+    // the observer, the round's ts, the counter, and the status
+    Ack(u64, u64, u64, Status),
+    Poll,
 }
 
 // What every step keeps, and what stands behind each verdict.

@@ -1,3 +1,3 @@
--- Document 01, "Program `rackrun`": what the readers of step lines rest on.
+-- What the readers of step lines rest on.
 pub mod Rows
 pub mod Lengths

@@ -6,11 +6,11 @@ use mathlib.Core.Bool.{true}
 use mathlib.Core.List.{List}
 use lib.ListN.{length, drop, length-append, length-drop}
 use Rattle.words.specs.Lists.{text}
-use Rattle.fields.specs.declared.Number.the-variants.{Value}
-use Rattle.fields.specs.Decimals.{digits, numberAt}
+use Rattle.decimals.specs.declared.Number.the-variants.{Value}
+use Rattle.decimals.specs.Decimals.{digits, numberAt}
 use Rattle.fields.specs.Places.{begins}
 use Rattle.fields.proofs.Rooms.{front}
-use Rattle.fields.proofs.Reading.{read-digits}
+use Rattle.decimals.proofs.Reading.{read-digits}
 use Rattle.step_lines.specs.Rows.{greatestNumber}
 
 -- a tab that stands at p is within the line

@@ -1,4 +1,4 @@
--- The lines of a step file, each form as document 01 writes it. What is no line of the forms is bad.
+-- The lines of a step file (rules 7.2 and 7.3). What is no line of the forms is bad.
 use Prim.Native.Nat.{ℕ}
 use mathlib.Core.Bool.{Bool, _&&_}
 use mathlib.Core.List.{List}
@@ -11,9 +11,9 @@ use Rattle.settings.specs.Settings.{settingsOf}
 use Rattle.step_lines.specs.declared.Row.{Row}
 use Rattle.step_lines.specs.declared.StepLine.{StepLine}
 use Rattle.step_lines.specs.declared.StepLine.the-variants.{Recorder, Observer, Standby, Bad}
-use Rattle.step_lines.specs.declared.RecorderStep.the-variants.{Tick, Drive, Grant}
-use Rattle.step_lines.specs.declared.ObserverStep.the-variants.{Request, Cut, Check}
-use Rattle.step_lines.specs.declared.StandbyStep.the-variants.{Begin, Poll, Ack}
+use Rattle.recorder_rules.specs.declared.RecorderEvent.the-variants.{Tick, Drive, Grant}
+use Rattle.observer_rules.specs.declared.ObserverEvent.the-variants.{Request, Cut, Check}
+use Rattle.standby_rules.specs.declared.StandbyEvent.the-variants.{Begin, Poll, Ack}
 use Rattle.step_lines.specs.declared.SettingsLine.{SettingsLine}
 use Rattle.step_lines.specs.declared.SettingsLine.the-variants.{Given, Bad as NoSettings}
 use Rattle.step_lines.specs.Rows.{row}

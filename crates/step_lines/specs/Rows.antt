@@ -1,17 +1,17 @@
--- Numbers in a row: "one tab parts words and numbers", so each number has one tab before it.
+-- Numbers in a row, each behind one tab (rule 7.4).
 use Prim.Native.Nat.{ℕ, zero, suc, _+_}
 use mathlib.Core.Bool.{true, false, _&&_}
 use mathlib.Core.List.{List}
 use lib.ListN.{drop, set, replicate}
 use Rattle.words.specs.Tests.{if_then_else_}
 use Rattle.words.specs.Lists.{text}
-use Rattle.fields.specs.declared.Number.{Number}
-use Rattle.fields.specs.declared.Number.the-variants.{Value, Bad}
-use Rattle.fields.specs.Decimals.{numberAt}
+use Rattle.decimals.specs.declared.Number.{Number}
+use Rattle.decimals.specs.declared.Number.the-variants.{Value, Bad}
+use Rattle.decimals.specs.Decimals.{numberAt}
 use Rattle.fields.specs.Places.{begins}
 use Rattle.step_lines.specs.declared.Row.{Row}
 
--- "to 2^64 - 1"
+-- the greatest number of a line
 abbrev pub greatestNumber : ℕ
 greatestNumber = 18446744073709551615
 

@@ -1,13 +1,17 @@
-// The lines of a step file, read into what they ask for. Serves document 01, "Program `rackrun`": the forms of its lines.
+// The lines of a step file, read into what they ask for. Serves rules 7.2 to 7.4.
 // Each field is read from the part of the line that begins where the field begins. Numbers go to 2^64 - 1: the steps test
 // the ranges.
-use fields::Number;
+use decimals::Number;
+use decimals::read_number;
 use fields::is_exactly;
 use fields::part_from;
-use fields::read_number;
 use fields::starts;
 use messages::Status;
+use observer_rules::ObserverEvent;
+use recorder_rules::RecorderEvent;
 use settings::Settings;
+use settings::settings_of;
+use standby_rules::StandbyEvent;
 ghost use mathlib.Core.Path.{_≡_};
 ghost use Prim.Native.Nat.{_<_, _≤_};
 ghost use Rattle.step_lines.specs.Rows.{extended, row};
@@ -15,29 +19,10 @@ ghost use Rattle.step_lines.specs.Reading.{closedBy, settingsNumbers, se
 
 // What a step line asks for: whose step it is, with the party's reading, and an observer's number before that.
 pub enum StepLine {
-    Recorder(u64, RecorderStep),
-    Observer(u64, u64, ObserverStep),
-    Standby(u64, StandbyStep),
+    Recorder(u64, RecorderEvent),
+    Observer(u64, u64, ObserverEvent),
+    Standby(u64, StandbyEvent),
     Bad,
-}
-
-// The steps, their numbers in the line's order.
-pub enum RecorderStep {
-    Tick,
-    Drive,
-    Grant(u64, u64),
-}
-
-pub enum ObserverStep {
-    Request(u64),
-    Cut(u64, u64),
-    Check(u64),
-}
-
-pub enum StandbyStep {
-    Begin,
-    Poll,
-    Ack(u64, u64, u64, Status),
 }
 
 // What a first line gives: the settings, or nothing.
@@ -107,15 +92,8 @@ fn settings_numbers(s: &[u8]) -> SettingsLine
 {
     let row = row_of(s, 7);
     if is_closed_by(b"\n", s, row) {
-        SettingsLine::Given(Settings {
-            observers: row.numbers[0],
-            survival: row.numbers[1],
-            interval: row.numbers[2],
-            timeliness: row.numbers[3],
-            recorder_lease: row.numbers[4],
-            observer_lease: row.numbers[5],
-            grain: row.numbers[6],
-        })
+        let numbers = row.numbers;
+        SettingsLine::Given(settings_of(numbers))
     } else {
         SettingsLine::Bad
     }
@@ -137,7 +115,10 @@ fn grant_numbers(reading: u64, s: &[u8]) -> StepLine
 {
     let row = row_of(s, 2);
     if is_closed_by(b"\n", s, row) {
-        StepLine::Recorder(reading, RecorderStep::Grant(row.numbers[0], row.numbers[1]))
+        StepLine::Recorder(
+            reading,
+            RecorderEvent::Grant(row.numbers[0], row.numbers[1]),
+        )
     } else {
         StepLine::Bad
     }
@@ -147,10 +128,10 @@ fn recorder_event(reading: u64, s: &[u8]) -> StepLine
     ensures { λ r. ⌜ r ≡ recorderEvent reading (now (s .entry)) ⌝ }
 {
     if is_exactly(s, b"\ttick\n") {
-        return StepLine::Recorder(reading, RecorderStep::Tick);
+        return StepLine::Recorder(reading, RecorderEvent::Tick);
     }
     if is_exactly(s, b"\tdrive\n") {
-        return StepLine::Recorder(reading, RecorderStep::Drive);
+        return StepLine::Recorder(reading, RecorderEvent::Drive);
     }
     if starts(s, b"\tgrant") {
         return grant_numbers(reading, part_from(s, 6));
@@ -174,7 +155,7 @@ fn cut_numbers(x: u64, reading: u64, counter: u64, s: &[u8]) -> StepLine
 {
     let row = row_of(s, 1);
     if is_closed_by(b"\n", s, row) {
-        StepLine::Observer(x, reading, ObserverStep::Cut(counter, row.numbers[0]))
+        StepLine::Observer(x, reading, ObserverEvent::Cut(counter, row.numbers[0]))
     } else {
         StepLine::Bad
     }
@@ -184,7 +165,7 @@ fn request_end(x: u64, reading: u64, counter: u64, s: &[u8]) -> StepLine
     ensures { λ r. ⌜ r ≡ requestEnd x reading counter (now (s .entry)) ⌝ }
 {
     if is_exactly(s, b"\n") {
-        return StepLine::Observer(x, reading, ObserverStep::Request(counter));
+        return StepLine::Observer(x, reading, ObserverEvent::Request(counter));
     }
     if starts(s, b"\tcut") {
         return cut_numbers(x, reading, counter, part_from(s, 4));
@@ -208,7 +189,7 @@ fn check_numbers(x: u64, reading: u64, s: &[u8]) -> StepLine
 {
     let row = row_of(s, 1);
     if is_closed_by(b"\n", s, row) {
-        StepLine::Observer(x, reading, ObserverStep::Check(row.numbers[0]))
+        StepLine::Observer(x, reading, ObserverEvent::Check(row.numbers[0]))
     } else {
         StepLine::Bad
     }
@@ -245,10 +226,10 @@ fn ack_numbers(reading: u64, s: &[u8]) -> StepLine
     let ts = row.numbers[1];
     let counter = row.numbers[2];
     if is_closed_by(b"\tAlive\n", s, row) {
-        return StepLine::Standby(reading, StandbyStep::Ack(x, ts, counter, Status::Alive));
+        return StepLine::Standby(reading, StandbyEvent::Ack(x, ts, counter, Status::Alive));
     }
     if is_closed_by(b"\tDead\n", s, row) {
-        return StepLine::Standby(reading, StandbyStep::Ack(x, ts, counter, Status::Dead));
+        return StepLine::Standby(reading, StandbyEvent::Ack(x, ts, counter, Status::Dead));
     }
     StepLine::Bad
 }
@@ -257,10 +238,10 @@ fn standby_event(reading: u64, s: &[u8]) -> StepLine
     ensures { λ r. ⌜ r ≡ standbyEvent reading (now (s .entry)) ⌝ }
 {
     if is_exactly(s, b"\tbegin\n") {
-        return StepLine::Standby(reading, StandbyStep::Begin);
+        return StepLine::Standby(reading, StandbyEvent::Begin);
     }
     if is_exactly(s, b"\tpoll\n") {
-        return StepLine::Standby(reading, StandbyStep::Poll);
+        return StepLine::Standby(reading, StandbyEvent::Poll);
     }
     if starts(s, b"\tack") {
         return ack_numbers(reading, part_from(s, 4));

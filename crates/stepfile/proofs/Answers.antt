@@ -9,7 +9,7 @@ use Rattle.stepfile.specs.declared.Answered.the-variants.{Length, Short 
 use Rattle.stepfile.specs.Answers.{saidOfAnswered}
 
 abbrev answeredBack : Said ℕ → Answered
-answeredBack (refusal k) = TooShort
+answeredBack (refusal k values) = TooShort
 answeredBack (gives k) = Length k
 
 pub answered-apart : {a a′ : Answered} → saidOfAnswered a ≡ saidOfAnswered a′ → a ≡ a′

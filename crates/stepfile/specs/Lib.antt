@@ -1,2 +1,2 @@
--- Document 01, "Program `rackrun`": what is written is a function of the input.
+-- What `answer_file` answers.
 pub mod Answers

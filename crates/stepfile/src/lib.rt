@@ -6,9 +6,6 @@ use fields::part_from;
 use line_room::LineWritten;
 use messages::Answer;
 use session::observer_at;
-use session::observer_step;
-use session::recorder_step;
-use session::standby_step;
 use session::start;
 use session::with_observer;
 use settings::Settings;
@@ -23,8 +20,9 @@ ghost use lib.ListN.{length, take, drop};
 ghost use Rattle.fields.specs.Places.{putAt};
 ghost use Rattle.line_room.specs.Written.{saidOfWritten};
 ghost use Rattle.session.specs.Session.{started};
-ghost use Rattle.stepfile_rules.specs.Lines.{lineLength, linesOf};
-ghost use Rattle.stepfile_rules.specs.Files.{lengthSaid, answersTo, answersOf, answeredSaid, answeredRoom};
+ghost use Rattle.stepfile_rules.specs.Lines.{linesOf};
+ghost use Rattle.stepfile_rules.specs.Parts.{lineLength, lengthSaid};
+ghost use Rattle.stepfile_rules.specs.Files.{answersTo, answersOf, answeredSaid, answeredRoom};
 ghost use Rattle.stepfile.specs.Answers.{saidOfAnswered};
 
 // The longest input.
@@ -90,19 +88,19 @@ fn answer_steps(input: &[u8], first: usize, s: Settings, out: &mut [u8], begin: 
         let line = read_step_line(front_of(rest, count));
         let mut answer = Answer::Refused(9);
         match line {
-            StepLine::Recorder(reading, step) => {
-                let done = recorder_step(s, rec, reading, step);
+            StepLine::Recorder(reading, event) => {
+                let done = recorder::step(s, rec, reading, event);
                 answer = done.answer;
                 rec = done.rec;
             }
-            StepLine::Observer(x, reading, step) => {
-                let done = observer_step(s, observer_at(observers, x), x, reading, step);
+            StepLine::Observer(x, reading, event) => {
+                let done = observer::step(s, observer_at(observers, x), x, reading, event);
                 answer = done.answer;
                 let placed = with_observer(observers, x, done.rec);
                 observers = placed;
             }
-            StepLine::Standby(reading, step) => {
-                let done = standby_step(s, asking, reading, step);
+            StepLine::Standby(reading, event) => {
+                let done = standby::step(s, asking, reading, event);
                 answer = done.answer;
                 asking = done.rec;
             }

@@ -24,7 +24,8 @@ use Rattle.stepfile_rules.specs.Files.{answersTo, afterSettings, answers
 use Rattle.stepfile_rules.specs.Claims.{startsRun, answeredOf, answeredLines, OneLineEach}
 
 -- what stands before a line's feed has none itself
-plain-line : (front rest : List ℕ) → every isPlain front ≡ true → linesOf ((front ++ text "\n") ++ rest) ≡ (front ++ text "\n") ∷ linesOf rest
+plain-line : (front rest : List ℕ) → every isPlain front ≡ true
+    → linesOf ((front ++ text "\n") ++ rest) ≡ (front ++ text "\n") ∷ linesOf rest
 unfolding linesOf onto every
 plain-line [] rest p = refl
 plain-line (byte ∷ front) rest p =
@@ -49,12 +50,14 @@ in-a-run q (line ∷ lines) =
 refused : (k : ℕ) → length (linesOf (answerLine (said (Refused k)))) ≡ 1
 refused k = alone _ (answer-line (Refused k))
 
-after : (first : SettingsLine) (lines : List (List ℕ)) → length (linesOf (afterSettings first lines)) ≡ (if startsRun first then suc (length lines) else 1)
+after : (first : SettingsLine) (lines : List (List ℕ))
+    → length (linesOf (afterSettings first lines)) ≡ (if startsRun first then suc (length lines) else 1)
 unfolding afterSettings startsRun said
 after Bad lines = refused 9
 after (Given s) lines = by (refusalOf s =? 0)
   where
-    by : (t : Bool) → length (linesOf (settingsAnswer s ++ (if t then answersTo (started s) lines else []))) ≡ (if t then suc (length lines) else 1)
+    by : (t : Bool) → length (linesOf (settingsAnswer s ++ (if t then answersTo (started s) lines else [])))
+        ≡ (if t then suc (length lines) else 1)
     by true = one-line (settingsAnswer s) _ (settings-line s) ∙ ap suc (in-a-run (started s) lines)
     by false = rw (append-nil (settingsAnswer s)) (alone (settingsAnswer s) (settings-line s))
 
@@ -67,7 +70,8 @@ in-a-file : (input : List ℕ) → length (linesOf (answers input)) ≡ answered
 unfolding answers answeredLines said
 in-a-file input = by (mostBytes <? length input)
   where
-    by : (t : Bool) → length (linesOf (if t then answerLine (said (Refused 10)) else answersOf (linesOf input))) ≡ (if t then 1 else answeredOf (linesOf input))
+    by : (t : Bool) → length (linesOf (if t then answerLine (said (Refused 10)) else answersOf (linesOf input)))
+        ≡ (if t then 1 else answeredOf (linesOf input))
     by true = refused 10
     by false = in-lines (linesOf input)
 

@@ -9,9 +9,10 @@ use lib.ListN.{length, take, drop, length-append, length-drop}
 use lib.Seq.{length-take-le}
 use borrow.Author.Tests.{lt-ltb, le-ltb, ltb-true, ltb-false}
 use Rattle.words.specs.Tests.{if_then_else_, _<?_, _=?_}
-use Rattle.words.specs.Said.Said.{refusal, gives}
+use Rattle.words.specs.Said.{refused}
+use Rattle.words.specs.Said.Said.{gives}
 use Rattle.words.proofs.Booleans.{whether}
-use Rattle.fields.specs.Decimals.{digits, digitsIn}
+use Rattle.decimals.specs.Decimals.{digits, digitsIn}
 use Rattle.fields.specs.Places.{putAt}
 use Rattle.fields.proofs.Rooms.{put-fits}
 use Rattle.settings.specs.declared.Settings.{Settings}
@@ -27,13 +28,15 @@ use Rattle.answer_lines.specs.Answers.{answerLine, settingsAnswer}
 use Rattle.answer_lines.proofs.Lines.{refusal-line}
 use Rattle.answer_lines.proofs.OneLine.{settings-line}
 use Rattle.session.specs.Session.{started}
-use Rattle.stepfile_rules.specs.Lines.{linesOf, lineLength}
-use Rattle.stepfile_rules.specs.Files.{answersTo, afterSettings, answersOf, answers, mostBytes, roomFor, answeredSaid, answeredRoom, lengthSaid}
+use Rattle.stepfile_rules.specs.Lines.{linesOf}
+use Rattle.stepfile_rules.specs.Parts.{lineLength, lengthSaid}
+use Rattle.stepfile_rules.specs.Files.{answersTo, afterSettings, answersOf, answers, mostBytes, roomFor, answeredSaid, answeredRoom}
 use Rattle.stepfile_rules.proofs.Lines.{line-some, line-within, first-line}
 use Rattle.stepfile_rules.proofs.Steps.{answers-short}
 
 -- a line that fits is written whole
-pub written : (line room : List ℕ) → length line ≤ length room → (lengthSaid (fitting line room) ≡ length line) × (filled line room ≡ putAt room 0 line)
+pub written : (line room : List ℕ) → length line ≤ length room
+    → (lengthSaid (fitting line room) ≡ length line) × (filled line room ≡ putAt room 0 line)
 unfolding lengthSaid
 written line room h =
     let fits = put-fits room 0 line (omega arith) in
@@ -61,14 +64,16 @@ module _ (input : List ℕ) (some : 0 < length input) (count : ℕ) (counted : c
   unfolding afterSettings
   goes-on s e accepted = opened ∙ rw (e, accepted) refl
 
-  pub ends : (s : Settings) → settingsLine (take count input) ≡ Given s → refusalOf s =? 0 ≡ false → answersOf (linesOf input) ≡ settingsAnswer s
+  pub ends : (s : Settings) → settingsLine (take count input) ≡ Given s → refusalOf s =? 0 ≡ false
+      → answersOf (linesOf input) ≡ settingsAnswer s
   unfolding afterSettings
   ends s e refused = opened ∙ rw (e, refused) (append-nil (settingsAnswer s))
 
 -- ---- the whole file
 
 -- room below what is enough
-pub too-short : (input room : List ℕ) → length room < roomFor (length input) → (answeredSaid input room ≡ refusal 10) × (answeredRoom input room ≡ room)
+pub too-short : (input room : List ℕ) → length room < roomFor (length input)
+    → (answeredSaid input room ≡ refused 10) × (answeredRoom input room ≡ room)
 unfolding answeredSaid answeredRoom
 too-short input room h = rw (lt-ltb (length room) (roomFor (length input)) h) (refl, refl)
 
@@ -81,12 +86,14 @@ answered input room h fits =
     (refl, sym (put-fits room 0 (answers input) (omega arith) ∙ rw (zero-add (length (answers input))) refl))
 
 -- an input that is too long
-pub too-long : (input : List ℕ) → mostBytes < length input → (answers input ≡ answerLine (refuses 10)) × (roomFor (length input) ≡ 3)
+pub too-long : (input : List ℕ) → mostBytes < length input
+    → (answers input ≡ answerLine (refuses 10)) × (roomFor (length input) ≡ 3)
 unfolding answers roomFor
 too-long input h = rw (lt-ltb mostBytes (length input) h) (refl, refl)
 
 -- and one that is not
-pub in-length : (input : List ℕ) → length input ≤ mostBytes → (answers input ≡ answersOf (linesOf input)) × (roomFor (length input) ≡ 7 * length input)
+pub in-length : (input : List ℕ) → length input ≤ mostBytes
+    → (answers input ≡ answersOf (linesOf input)) × (roomFor (length input) ≡ 7 * length input)
 unfolding answers roomFor
 in-length input h = rw (le-ltb mostBytes (length input) h) (refl, refl)
 
@@ -102,14 +109,17 @@ first-short Bad count rest h some = rw (refusal-line 9) (omega arith)
 first-short (Given s) count rest h some =
     let most = settings-line s .short in
     let later : length (if refusalOf s =? 0 then answersTo (started s) (linesOf rest) else []) ≤ 7 * length rest
-    = whether (λ (l : List ℕ). length l ≤ 7 * length rest) (refusalOf s =? 0) _ _ (λ e. answers-short (started s) rest) (λ e. omega arith) in
+    = whether (λ (l : List ℕ). length l ≤ 7 * length rest) (refusalOf s =? 0) (λ e. answers-short (started s) rest)
+    (λ e. omega arith) in
     rw (length-append (settingsAnswer s) _) (omega (arith, most, later))
 
 some-lines : (input : List ℕ) → 0 < length input → length (answersOf (linesOf input)) ≤ 7 * length input
 some-lines input some =
     let count = lineLength input in
     let line = length-take-le count input (line-within input) in
-    let short = first-short (settingsLine (take count input)) count (drop count input) (omega (arith, settings-line-length (take count input), line)) (line-some input some) in
+    let short =
+    first-short (settingsLine (take count input)) count (drop count input)
+    (omega (arith, settings-line-length (take count input), line)) (line-some input some) in
     rw (opened input some count refl) (omega (arith, short, length-drop count input, line-within input))
 
 no-answers : answersOf (linesOf []) ≡ []
@@ -133,7 +143,8 @@ enough input = by-length (mostBytes <? length input) refl
     by-length false e = let l = in-length input (ltb-false mostBytes (length input) e) in rw (l .0, l .1) (lines-short input)
 
 -- what is written is the answers: the code's length and room are the definition's
-pub settled : (input room : List ℕ) → roomFor (length input) ≤ length room → (said : List ℕ) → answers input ≡ said → (k : ℕ) (room′ : List ℕ)
+pub settled : (input room : List ℕ) → roomFor (length input) ≤ length room → (said : List ℕ) → answers input ≡ said
+    → (k : ℕ) (room′ : List ℕ)
     → k ≡ length said → room′ ≡ putAt room 0 said → (gives k ≡ answeredSaid input room) × (room′ ≡ answeredRoom input room)
 settled input room h said e k room′ long put =
     let a = answered input room h (omega (arith, enough input)) in
@@ -144,6 +155,7 @@ pub in-room : (input room : List ℕ) (k : ℕ) → gives k ≡ answeredSaid inp
 unfolding answeredSaid lengthSaid
 in-room input room k = by (length room <? roomFor (length input)) refl
   where
-    by : (t : Bool) → (length room <? roomFor (length input)) ≡ t → gives k ≡ (if t then refusal 10 else gives (length (answers input))) → k ≤ length room
+    by : (t : Bool) → (length room <? roomFor (length input)) ≡ t
+        → gives k ≡ (if t then refused 10 else gives (length (answers input))) → k ≤ length room
     by true t e = omega (arith, ap lengthSaid e)
     by false t e = omega (arith, ap lengthSaid e, enough input, ltb-false (length room) (roomFor (length input)) t)

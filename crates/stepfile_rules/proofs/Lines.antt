@@ -9,7 +9,8 @@ use mathlib.Core.List.{List, [], _∷_}
 use lib.ListN.{length, take, drop, getD}
 use lib.Seq.{drop-cons}
 use Rattle.words.specs.Tests.{if_then_else_, _=?_}
-use Rattle.stepfile_rules.specs.Lines.{onto, linesOf, together, lineLength}
+use Rattle.stepfile_rules.specs.Lines.{onto, linesOf, together}
+use Rattle.stepfile_rules.specs.Parts.{lineLength}
 
 -- a line feed ends the line
 pub line-end : (s : List ℕ) (i : ℕ) → i < length s → (getD s i 0 =? 10) ≡ true → lineLength (drop i s) ≡ 1
@@ -17,7 +18,8 @@ unfolding lineLength
 line-end s i h e = rw (drop-cons s i 0 h, e)
 
 -- any other byte goes on with it
-pub line-next : (s : List ℕ) (i : ℕ) → i < length s → (getD s i 0 =? 10) ≡ false → lineLength (drop i s) ≡ suc (lineLength (drop (i + 1) s))
+pub line-next : (s : List ℕ) (i : ℕ) → i < length s → (getD s i 0 =? 10) ≡ false
+    → lineLength (drop i s) ≡ suc (lineLength (drop (i + 1) s))
 unfolding lineLength
 line-next s i h e = rw (drop-cons s i 0 h, e, add-one i)
 
@@ -45,14 +47,17 @@ unfolding linesOf lineLength onto
 first-line [] h = absurd (not-suc-le-zero h)
 first-line (byte ∷ []) h = by (byte =? 10)
   where
-    by : (t : Bool) → (if t then (byte ∷ []) ∷ [] else (byte ∷ []) ∷ []) ≡ take (if t then 1 else 1) (byte ∷ []) ∷ linesOf (drop (if t then 1 else 1) (byte ∷ []))
+    by : (t : Bool) → (if t then (byte ∷ []) ∷ [] else (byte ∷ []) ∷ []) ≡ take (if t then 1 else 1) (byte ∷ []) ∷ linesOf
+        (drop (if t then 1 else 1) (byte ∷ []))
     by true = refl
     by false = refl
 first-line (byte ∷ (next ∷ bytes)) h = by (byte =? 10) (first-line (next ∷ bytes) (omega arith))
   where
-    by : (t : Bool) → linesOf (next ∷ bytes) ≡ take (lineLength (next ∷ bytes)) (next ∷ bytes) ∷ linesOf (drop (lineLength (next ∷ bytes)) (next ∷ bytes))
+    by : (t : Bool) → linesOf (next ∷ bytes) ≡ take (lineLength (next ∷ bytes)) (next ∷ bytes) ∷ linesOf
+        (drop (lineLength (next ∷ bytes)) (next ∷ bytes))
         → (if t then (byte ∷ []) ∷ linesOf (next ∷ bytes) else onto byte (linesOf (next ∷ bytes)))
-        ≡ take (if t then 1 else suc (lineLength (next ∷ bytes))) (byte ∷ (next ∷ bytes)) ∷ linesOf (drop (if t then 1 else suc (lineLength (next ∷ bytes))) (byte ∷ (next ∷ bytes)))
+        ≡ take (if t then 1 else suc (lineLength (next ∷ bytes))) (byte ∷ (next ∷ bytes)) ∷ linesOf
+        (drop (if t then 1 else suc (lineLength (next ∷ bytes))) (byte ∷ (next ∷ bytes)))
     by true e = refl
     by false e = rw e refl
 
@@ -66,6 +71,7 @@ unfolding together linesOf
 all-of-it [] = refl
 all-of-it (byte ∷ bytes) = by (byte =? 10) (all-of-it bytes)
   where
-    by : (t : Bool) → together (linesOf bytes) ≡ bytes → together (if t then (byte ∷ []) ∷ linesOf bytes else onto byte (linesOf bytes)) ≡ byte ∷ bytes
+    by : (t : Bool) → together (linesOf bytes) ≡ bytes
+        → together (if t then (byte ∷ []) ∷ linesOf bytes else onto byte (linesOf bytes)) ≡ byte ∷ bytes
     by true e = ap (λ (l : List ℕ). byte ∷ l) e
     by false e = together-onto byte (linesOf bytes) ∙ ap (λ (l : List ℕ). byte ∷ l) e

@@ -7,7 +7,7 @@ use mathlib.Core.List.{List, [], _∷_, _++_, append-assoc, append-nil}
 use lib.ListN.{length, take, drop, length-append, length-drop, drop-of-length-le}
 use lib.Seq.{drop-drop, length-take-le}
 use Rattle.words.specs.Said.{Said}
-use Rattle.fields.specs.Decimals.{digits, digitsIn}
+use Rattle.decimals.specs.Decimals.{digits, digitsIn}
 use Rattle.fields.specs.Places.{putAt}
 use Rattle.fields.proofs.Rooms.{length-put, put-nothing, put-more}
 use Rattle.messages.specs.Answers.{Spoken}
@@ -26,7 +26,8 @@ use Rattle.answer_lines.proofs.OneLine.{answer-line}
 use Rattle.session.specs.declared.Session.{Session}
 use Rattle.session.specs.Session.{performOf}
 use Rattle.session.proofs.Spoken.{IsAnswer, performed}
-use Rattle.stepfile_rules.specs.Lines.{linesOf, lineLength}
+use Rattle.stepfile_rules.specs.Lines.{linesOf}
+use Rattle.stepfile_rules.specs.Parts.{lineLength}
 use Rattle.stepfile_rules.specs.Files.{answersTo}
 use Rattle.stepfile_rules.proofs.Lines.{line-some, line-within, first-line}
 
@@ -38,7 +39,8 @@ bad : (q : Session) (count : ℕ) → 0 < count → length (answerLine (performO
 unfolding performOf digits digitsIn
 bad q count h = rw (refusal-line 9) (omega arith)
 
-pub answer-short : (q : Session) (line : List ℕ) → 0 < length line → length (answerLine (performOf q (stepLine line) .answer)) ≤ 7 * length line
+pub answer-short : (q : Session) (line : List ℕ) → 0 < length line
+    → length (answerLine (performOf q (stepLine line) .answer)) ≤ 7 * length line
 answer-short q line some = by (stepLine line) (step-line-length line)
   where
     by : (l : StepLine) → needed l ≤ length line → length (answerLine (performOf q l .answer)) ≤ 7 * length line
@@ -68,7 +70,8 @@ one-more q (byte ∷ bytes) later =
     let short = answer-short q line (omega (arith, long)) in
     let left = length-drop count s in
     let rest = later (performOf q (stepLine line) .rec) (drop count s) (omega arith) in
-    rw (first-line s (omega arith), length-append (answerLine (performOf q (stepLine line) .answer)) _) (omega (arith, long, left, rest, short))
+    rw (first-line s (omega arith), length-append (answerLine (performOf q (stepLine line) .answer)) _)
+    (omega (arith, long, left, rest, short))
 
 within : (fuel : ℕ) (q : Session) (s : List ℕ) → length s ≤ fuel → Short q s
 within zero q s h = one-more q s (λ r t (l : length t < length s). absurd (let z : ⊥ = omega arith in z))
@@ -83,7 +86,8 @@ answers-short q s = within (length s) q s (le-refl (length s))
 abbrev pub sessionOf : Settings → Recorder.Recorder → List Observer.Observer → Standby.Standby → Session
 sessionOf s rec observers asking = record { settings = s; recorder = rec; observers = observers; standby = asking }
 
-pub record Gone (input : List ℕ) (first : ℕ) (out₀ : List ℕ) (begin : ℕ) (session₀ : Session) (out : List ℕ) (session : Session) (from at : ℕ) : Type 0 where
+pub record Gone (input : List ℕ) (first : ℕ) (out₀ : List ℕ) (begin : ℕ) (session₀ : Session) (out : List ℕ) (session : Session)
+    (from at : ℕ) : Type 0 where
   pub done : List ℕ
   pub within : from ≤ length input
   pub enough : at + 7 * (length input - from) ≤ length out₀
@@ -91,8 +95,9 @@ pub record Gone (input : List ℕ) (first : ℕ) (out₀ : List ℕ) (begin : �
   pub holds : out ≡ putAt out₀ begin done
   pub whole : answersTo session₀ (linesOf (drop first input)) ≡ done ++ answersTo session (linesOf (drop from input))
 
-module _ (input : List ℕ) (first : ℕ) (out₀ : List ℕ) (begin : ℕ) (session₀ : Session) where
-  pub gone-none : first ≤ length input → begin + 7 * (length input - first) ≤ length out₀ → Gone input first out₀ begin session₀ out₀ session₀ first begin
+module _ {input : List ℕ} {first : ℕ} {out₀ : List ℕ} {begin : ℕ} {session₀ : Session} where
+  pub gone-none : first ≤ length input → begin + 7 * (length input - first) ≤ length out₀
+      → Gone input first out₀ begin session₀ out₀ session₀ first begin
   gone-none within enough =
       record {
         done = [];
@@ -104,14 +109,17 @@ module _ (input : List ℕ) (first : ℕ) (out₀ : List ℕ) (begin : ℕ) (ses
       }
 
   -- the room keeps its length, and its next place is in it
-  pub gone-sized : (out : List ℕ) (session : Session) (from at : ℕ) → Gone input first out₀ begin session₀ out session from at → length out ≡ length out₀
-  gone-sized out session from at g = ap length (g .holds) ∙ length-put out₀ begin (g .done)
+  pub gone-sized : {out : List ℕ} {session : Session} {from at : ℕ} → Gone input first out₀ begin session₀ out session from at
+      → length out ≡ length out₀
+  gone-sized g = ap length (g .holds) ∙ length-put out₀ begin (g .done)
 
   -- the next answer fits
-  pub gone-fits : (out : List ℕ) (session : Session) (from at : ℕ) → Gone input first out₀ begin session₀ out session from at → from < length input
+  pub gone-fits : {out : List ℕ} {session : Session} {from at : ℕ} → Gone input first out₀ begin session₀ out session from at
+      → from < length input
       → (count : ℕ) → count ≡ lineLength (drop from input)
-      → (count ≤ length input - from) × (0 < count) × (at + length (answerLine (performOf session (stepLine (take count (drop from input))) .answer)) ≤ length out)
-  gone-fits out session from at g more count counted =
+      → (count ≤ length input - from) × (0 < count)
+      × (at + length (answerLine (performOf session (stepLine (take count (drop from input))) .answer)) ≤ length out)
+  gone-fits {session = session} {from = from} g more count counted =
       let rest = drop from input in
       let left = length-drop from input in
       let some = line-some rest (omega arith) in
@@ -119,21 +127,22 @@ module _ (input : List ℕ) (first : ℕ) (out₀ : List ℕ) (begin : ℕ) (ses
       let line = take count rest in
       let long : length line ≡ count = length-take-le count rest (omega (arith, counted)) in
       let short = answer-short session line (omega (arith, long, counted)) in
-      (omega (arith, counted), omega (arith, counted), omega (arith, g .enough, g .within, long, counted, gone-sized out session from at g))
+      (omega (arith, counted), omega (arith, counted), omega (arith, g .enough, g .within, long, counted, gone-sized g))
 
   -- one line more
-  pub gone-next : (out : List ℕ) (session : Session) (from at : ℕ) → Gone input first out₀ begin session₀ out session from at → from < length input
+  pub gone-next : {out : List ℕ} {session : Session} {from at : ℕ} → Gone input first out₀ begin session₀ out session from at
+      → from < length input
       → (count : ℕ) → count ≡ lineLength (drop from input)
       → (o : Outcome Session) → o ≡ performOf session (stepLine (take count (drop from input)))
       → (out′ : List ℕ) → out′ ≡ putAt out at (answerLine (o .answer))
       → Gone input first out₀ begin session₀ out′ (o .rec) (from + count) (at + length (answerLine (o .answer)))
   unfolding answersTo
-  gone-next out session from at g more count counted o performed out′ written =
+  gone-next {session = session} {from = from} g more count counted o performed out′ written =
       let rest = drop from input in
       let left = length-drop from input in
       let line = take count rest in
       let answer = answerLine (o .answer) in
-      let fits = gone-fits out session from at g more count counted in
+      let fits = gone-fits g more count counted in
       let long : length line ≡ count = length-take-le count rest (omega (arith, fits .0)) in
       let short : length answer ≤ 7 * length line = rw performed (answer-short session line (omega (arith, long, fits .1))) in
       let lines : linesOf rest ≡ line ∷ linesOf (drop (from + count) input)
@@ -143,15 +152,19 @@ module _ (input : List ℕ) (first : ℕ) (out₀ : List ℕ) (begin : ℕ) (ses
         within = omega (arith, fits .0, g .within);
         enough = omega (arith, g .enough, g .within, long, fits .0);
         place = rw (length-append (g .done) answer) (omega (arith, g .place));
-        holds = written ∙ rw (g .holds, g .place) (put-more out₀ begin (g .done) answer (omega (arith, g .place, g .enough, g .within, long, fits .0)));
+        holds =
+            written ∙ rw (g .holds, g .place)
+            (put-more out₀ begin (g .done) answer (omega (arith, g .place, g .enough, g .within, long, fits .0)));
         whole = g .whole ∙ rw (lines, append-assoc (g .done) answer _, performed) refl;
       }
 
   -- at the end nothing is to come
-  pub gone-all : (out : List ℕ) (session : Session) (from at : ℕ) → Gone input first out₀ begin session₀ out session from at → length input ≤ from
-      → (at ≡ begin + length (answersTo session₀ (linesOf (drop first input)))) × (out ≡ putAt out₀ begin (answersTo session₀ (linesOf (drop first input))))
+  pub gone-all : {out : List ℕ} {session : Session} {from at : ℕ} → Gone input first out₀ begin session₀ out session from at
+      → length input ≤ from
+      → (at ≡ begin + length (answersTo session₀ (linesOf (drop first input))))
+      × (out ≡ putAt out₀ begin (answersTo session₀ (linesOf (drop first input))))
   unfolding answersTo linesOf
-  gone-all out session from at g end =
+  gone-all {from = from} g end =
       let whole : answersTo session₀ (linesOf (drop first input)) ≡ g .done
       = g .whole ∙ rw (drop-of-length-le input {i = from} end) (append-nil (g .done)) in
       rw whole (g .place, g .holds)

@@ -3,7 +3,7 @@ use Prim.Native.Nat.{ℕ, _*_}
 use mathlib.Core.List.{List, [], _∷_, _++_}
 use lib.ListN.{length, drop}
 use Rattle.words.specs.Tests.{if_then_else_, _<?_, _=?_}
-use Rattle.words.specs.Said.{Said}
+use Rattle.words.specs.Said.{Said, refused}
 use Rattle.words.specs.Said.Said.{refusal, gives}
 use Rattle.settings.specs.Settings.{refusalOf}
 use Rattle.messages.specs.Answers.{refuses}
@@ -15,19 +15,19 @@ use Rattle.session.specs.declared.Session.{Session}
 use Rattle.session.specs.Session.{started, performOf}
 use Rattle.stepfile_rules.specs.Lines.{linesOf}
 
--- "Each line gets one line": a step's answer, and the records carried on to the next line. A later SETTINGS line is no step
+-- rule 7.5: a step's answer, and the records carried on to the next line. A later SETTINGS line is no step
 -- line, and neither is a last one without line feed: both get 9.
 unfoldable pub answersTo : Session → List (List ℕ) → List ℕ
 answersTo session [] = []
 answersTo session (line ∷ lines) =
     answerLine (performOf session (stepLine line) .answer) ++ answersTo (performOf session (stepLine line) .rec) lines
 
--- "refused settings, or a first line that is no good SETTINGS line (9), end the run"
+-- rules 7.7 and 7.8: settings that are refused end the run, and so does a first line that gives none
 unfoldable pub afterSettings : SettingsLine → List (List ℕ) → List ℕ
 afterSettings (Given s) lines = settingsAnswer s ++ (if refusalOf s =? 0 then answersTo (started s) lines else [])
 afterSettings Bad lines = answerLine (refuses 9)
 
--- "Empty input prints nothing"
+-- rule 7.10: empty input gets nothing
 unfoldable pub answersOf : List (List ℕ) → List ℕ
 answersOf [] = []
 answersOf (line ∷ lines) = afterSettings (settingsLine line) lines
@@ -36,7 +36,7 @@ answersOf (line ∷ lines) = afterSettings (settingsLine line) lines
 abbrev pub mostBytes : ℕ
 mostBytes = 65536
 
--- "too long input only 10"
+-- rule 7.10: input that is too long gets 10 alone
 unfoldable pub answers : List ℕ → List ℕ
 answers input = if mostBytes <? length input then answerLine (refuses 10) else answersOf (linesOf input)
 
@@ -48,14 +48,9 @@ roomFor bytes = if mostBytes <? bytes then 3 else 7 * bytes
 
 -- the length of the answers, or 10, the room being below that
 unfoldable pub answeredSaid : (input room : List ℕ) → Said ℕ
-answeredSaid input room = if length room <? roomFor (length input) then refusal 10 else gives (length (answers input))
+answeredSaid input room = if length room <? roomFor (length input) then refused 10 else gives (length (answers input))
 
 -- what stands behind the answers is not touched, and nothing is where the room is too short
 unfoldable pub answeredRoom : (input room : List ℕ) → List ℕ
 answeredRoom input room =
     if length room <? roomFor (length input) then room else answers input ++ drop (length (answers input)) room
-
--- how much of the room a written line has taken
-unfoldable pub lengthSaid : Said ℕ → ℕ
-lengthSaid (refusal k) = 0
-lengthSaid (gives k) = k

@@ -1,4 +1,5 @@
--- Document 01, "Program `rackrun`": what is written is a function of the input.
+-- Rules 7: what is written is a function of the input.
 pub mod Lines
 pub mod Files
 pub mod Claims
+pub mod Parts

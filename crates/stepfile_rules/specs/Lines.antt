@@ -1,5 +1,5 @@
 -- The lines of a file. Each ends behind its line feed (10); bytes behind the last one are a line too.
-use Prim.Native.Nat.{ℕ, suc}
+use Prim.Native.Nat.{ℕ}
 use mathlib.Core.List.{List, [], _∷_, _++_}
 use Rattle.words.specs.Tests.{if_then_else_, _=?_}
 
@@ -16,8 +16,3 @@ linesOf (byte ∷ bytes) = if byte =? 10 then (byte ∷ []) ∷ linesOf bytes el
 unfoldable pub together : List (List ℕ) → List ℕ
 together [] = []
 together (line ∷ lines) = line ++ together lines
-
--- the length of the first line
-unfoldable pub lineLength : List ℕ → ℕ
-lineLength [] = 0
-lineLength (byte ∷ bytes) = if byte =? 10 then 1 else suc (lineLength bytes)

@@ -1,4 +1,4 @@
-// The rules of step files. Serves document 01, "Program `rackrun`": specs/Lines.antt splits a file into lines, specs/Files.antt gives
+// The rules of step files. Serves rules 7: specs/Lines.antt splits a file into lines, specs/Files.antt gives
 // the answers to them, specs/Claims.antt says what these keep; the code is in `stepfile`.
 ghost use Rattle.stepfile_rules.specs.Claims.{LinesMakeTheFile, RoomIsEnough, OneLineEach};
 

@@ -1,6 +1,6 @@
--- A refusal's number alone, or the word with its values behind the 0. Assumes nothing.
+-- A refusal's number alone, or what is sent or said behind the 0. Assumes nothing.
 use Rattle.messages.specs.Answers.{said}
-use Rattle.answer_lines.proofs.Lines.{refusal-line, word-line, value-line}
+use Rattle.answer_lines.proofs.Lines.{refusal-line}
 use borrow.Author.Needs.{needs}
 use Rattle.answer_lines.proofs.write_answer.Statement.{statement}
 use Rattle.answer_lines.proofs.write_answer.Tie as tie
@@ -23,179 +23,42 @@ enum-known-answer-2 c = search needs
 write-message-requires : tie.Need-write-message-requires
 write-message-requires c κs = search needs
 
-enum-told : tie.Need-enum-told
-enum-told c = search needs
-
-slice-aggregate-write-word : tie.Need-slice-aggregate-write-word
-slice-aggregate-write-word c = search needs
-
-write-word-requires : tie.Need-write-word-requires
-write-word-requires c κs = search needs
-
-enum-told-2 : tie.Need-enum-told-2
-enum-told-2 c = search needs
-
-slice-aggregate-write-word-2 : tie.Need-slice-aggregate-write-word-2
-slice-aggregate-write-word-2 c = search needs
-
-write-word-requires-2 : tie.Need-write-word-requires-2
-write-word-requires-2 c κs = search needs
-
-enum-told-3 : tie.Need-enum-told-3
-enum-told-3 c = search needs
-
-slice-aggregate-write-word-3 : tie.Need-slice-aggregate-write-word-3
-slice-aggregate-write-word-3 c = search needs
-
-write-word-requires-3 : tie.Need-write-word-requires-3
-write-word-requires-3 c κs = search needs
-
-enum-told-4 : tie.Need-enum-told-4
-enum-told-4 c = search needs
-
-slice-aggregate-write-word-4 : tie.Need-slice-aggregate-write-word-4
-slice-aggregate-write-word-4 c = search needs
-
-write-word-requires-4 : tie.Need-write-word-requires-4
-write-word-requires-4 c κs = search needs
-
-enum-told-5 : tie.Need-enum-told-5
-enum-told-5 c = search needs
-
-slice-aggregate-write-word-5 : tie.Need-slice-aggregate-write-word-5
-slice-aggregate-write-word-5 c = search needs
-
-write-word-requires-5 : tie.Need-write-word-requires-5
-write-word-requires-5 c κs = search needs
-
-enum-told-6 : tie.Need-enum-told-6
-enum-told-6 c = search needs
-
-slice-aggregate-write-word-6 : tie.Need-slice-aggregate-write-word-6
-slice-aggregate-write-word-6 c = search needs
-
-write-word-requires-6 : tie.Need-write-word-requires-6
-write-word-requires-6 c κs = search needs
-
-enum-told-7 : tie.Need-enum-told-7
-enum-told-7 c = search needs
-
-slice-aggregate-write-word-7 : tie.Need-slice-aggregate-write-word-7
-slice-aggregate-write-word-7 c = search needs
-
-write-word-requires-7 : tie.Need-write-word-requires-7
-write-word-requires-7 c κs = search needs
-
-enum-told-8 : tie.Need-enum-told-8
-enum-told-8 c = search needs
-
-slice-aggregate-write-word-8 : tie.Need-slice-aggregate-write-word-8
-slice-aggregate-write-word-8 c = search needs
-
-write-word-requires-8 : tie.Need-write-word-requires-8
-write-word-requires-8 c κs = search needs
-
 enum-known-answer-3 : tie.Need-enum-known-answer-3
 enum-known-answer-3 c = search needs
 
-slice-aggregate-write-one-2 : tie.Need-slice-aggregate-write-one-2
-slice-aggregate-write-one-2 c = search needs
-
-write-one-requires-2 : tie.Need-write-one-requires-2
-write-one-requires-2 c κs = search needs
-
-enum-known-answer-4 : tie.Need-enum-known-answer-4
-enum-known-answer-4 c = search needs
-
-slice-aggregate-write-one-3 : tie.Need-slice-aggregate-write-one-3
-slice-aggregate-write-one-3 c = search needs
-
-write-one-requires-3 : tie.Need-write-one-requires-3
-write-one-requires-3 c κs = search needs
+write-said-requires : tie.Need-write-said-requires
+write-said-requires c κs = search needs
 
 same-length : tie.Need-same-length
 same-length c = search needs
 
 returns : tie.Need-returns
 unfolding said
-returns c = rw (c .before .before .before .before .before .before .answer .given .1, refusal-line (c .before .before .before .before .before .before .answer .given .0 .0)) (c .before .before .write-one .ensures)
+returns c =
+    let at-answer = c .before .before .before .before .before .before in
+    let k = at-answer .answer in
+    rw (k .given .1, refusal-line (k .given .0 .0)) (c .before .before .write-one .ensures)
 
 same-length-2 : tie.Need-same-length-2
 same-length-2 c = search needs
 
 returns-2 : tie.Need-returns-2
 unfolding said
-returns-2 c = rw (c .before .before .before .before .before .answer2 .given .1) (c .before .before .write-message .ensures)
+returns-2 c =
+    let at-answer2 = c .before .before .before .before .before in
+    rw (at-answer2 .answer2 .given .1) (c .before .before .write-message .ensures)
 
 same-length-3 : tie.Need-same-length-3
 same-length-3 c = search needs
 
 returns-3 : tie.Need-returns-3
 unfolding said
-returns-3 c = rw (c .before .before .before .before .before .enum-told .given .1, word-line "unregistered") (c .before .before .write-word .ensures)
-
-same-length-4 : tie.Need-same-length-4
-same-length-4 c = search needs
-
-returns-4 : tie.Need-returns-4
-unfolding said
-returns-4 c = rw (c .before .before .before .before .before .enum-told2 .given .1, word-line "running") (c .before .before .write-word2 .ensures)
-
-same-length-5 : tie.Need-same-length-5
-same-length-5 c = search needs
-
-returns-5 : tie.Need-returns-5
-unfolding said
-returns-5 c = rw (c .before .before .before .before .before .enum-told3 .given .1, word-line "stopped") (c .before .before .write-word3 .ensures)
-
-same-length-6 : tie.Need-same-length-6
-same-length-6 c = search needs
-
-returns-6 : tie.Need-returns-6
-unfolding said
-returns-6 c = rw (c .before .before .before .before .before .enum-told4 .given .1, word-line "silent") (c .before .before .write-word4 .ensures)
-
-same-length-7 : tie.Need-same-length-7
-same-length-7 c = search needs
-
-returns-7 : tie.Need-returns-7
-unfolding said
-returns-7 c = rw (c .before .before .before .before .before .enum-told5 .given .1, word-line "cut") (c .before .before .write-word5 .ensures)
-
-same-length-8 : tie.Need-same-length-8
-same-length-8 c = search needs
-
-returns-8 : tie.Need-returns-8
-unfolding said
-returns-8 c = rw (c .before .before .before .before .before .enum-told6 .given .1, word-line "waiting") (c .before .before .write-word6 .ensures)
-
-same-length-9 : tie.Need-same-length-9
-same-length-9 c = search needs
-
-returns-9 : tie.Need-returns-9
-unfolding said
-returns-9 c = rw (c .before .before .before .before .before .enum-told7 .given .1, word-line "late") (c .before .before .write-word7 .ensures)
-
-same-length-10 : tie.Need-same-length-10
-same-length-10 c = search needs
-
-returns-10 : tie.Need-returns-10
-unfolding said
-returns-10 c = rw (c .before .before .before .before .before .enum-told8 .given .1, word-line "unknown") (c .before .before .write-word8 .ensures)
-
-same-length-11 : tie.Need-same-length-11
-same-length-11 c = search needs
-
-returns-11 : tie.Need-returns-11
-unfolding said
-returns-11 c = rw (c .before .before .before .before .before .before .answer3 .given .1, value-line "dead" (c .before .before .before .before .before .before .answer3 .given .0 .0)) (c .before .before .write-one2 .ensures)
-
-same-length-12 : tie.Need-same-length-12
-same-length-12 c = search needs
-
-returns-12 : tie.Need-returns-12
-unfolding said
-returns-12 c = rw (c .before .before .before .before .before .before .answer4 .given .1, value-line "alive" (c .before .before .before .before .before .before .answer4 .given .0 .0)) (c .before .before .write-one3 .ensures)
+returns-3 c =
+    let at-answer3 = c .before .before .before .before .before in
+    rw (at-answer3 .answer3 .given .1) (c .before .before .write-said .ensures)
 
 pub write-answer-spec : {M : Type 1} → statement M
-write-answer-spec = tie.close (tie.spec enum-known-answer slice-aggregate-write-one cast-write-one write-one-requires enum-known-answer-2 write-message-requires enum-told slice-aggregate-write-word write-word-requires enum-told-2 slice-aggregate-write-word-2 write-word-requires-2 enum-told-3 slice-aggregate-write-word-3 write-word-requires-3 enum-told-4 slice-aggregate-write-word-4 write-word-requires-4 enum-told-5 slice-aggregate-write-word-5 write-word-requires-5 enum-told-6 slice-aggregate-write-word-6 write-word-requires-6 enum-told-7 slice-aggregate-write-word-7 write-word-requires-7 enum-told-8 slice-aggregate-write-word-8 write-word-requires-8 enum-known-answer-3 slice-aggregate-write-one-2 write-one-requires-2 enum-known-answer-4 slice-aggregate-write-one-3 write-one-requires-3 same-length returns same-length-2 returns-2 same-length-3 returns-3 same-length-4 returns-4 same-length-5 returns-5 same-length-6 returns-6 same-length-7 returns-7 same-length-8 returns-8 same-length-9 returns-9 same-length-10 returns-10 same-length-11 returns-11 same-length-12 returns-12)
+write-answer-spec =
+    tie.close (tie.spec enum-known-answer slice-aggregate-write-one cast-write-one write-one-requires
+    enum-known-answer-2 write-message-requires enum-known-answer-3 write-said-requires same-length returns same-length-2
+    returns-2 same-length-3 returns-3)

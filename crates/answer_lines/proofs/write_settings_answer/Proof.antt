@@ -11,9 +11,12 @@ use Rattle.answer_lines.proofs.write_settings_answer.Statement.{stateme
 use Rattle.answer_lines.proofs.write_settings_answer.Tie as tie
 
 abbrev values : tie.After-known-told → Values
-values c = let v = c .before .judged .given .0 in record { W = v .0; slacks = record { a = v .1 .0; b = v .1 .1 .0; c = v .1 .1 .1 .0 } }
+values c =
+    let v = c .before .judged .given .0 in record { W = v .0; slacks = record { a = v .1 .0; b = v .1 .1 .0; c = v .1 .1 .1 .0 } }
 
-says : (c : tie.After-known-told) → gives (values c) ≡ judged (c .before .before .before .before .before .args .s)
+says : (c : tie.After-known-told)
+    → let start = c .before .before .before .before .before in
+    gives (values c) ≡ judged (start .args .s)
 unfolding saidOf
 says c = sym (ap saidOf (c .before .judged .given .1)) ∙ c .before .before .before .judge .ensures
 
@@ -39,7 +42,8 @@ whole-requires-2 : tie.Need-whole-requires-2
 whole-requires-2 c κs = rw (read-b (c .before)) (none-negative _ (values (c .before)) (says (c .before)) .1)
 
 whole-requires-3 : tie.Need-whole-requires-3
-whole-requires-3 c κs = rw (read-c (c .before .before)) (none-negative _ (values (c .before .before)) (says (c .before .before)) .2)
+whole-requires-3 c κs =
+    rw (read-c (c .before .before)) (none-negative _ (values (c .before .before)) (says (c .before .before)) .2)
 
 write-values-requires : tie.Need-write-values-requires
 write-values-requires c κs = search needs
@@ -61,15 +65,36 @@ same-length c = search needs
 
 returns : tie.Need-returns
 returns c =
-    let d = c .before .before .before .before .before .before .before in
-    rw (accepted-answer (c .before .before .before .before .before .before .before .before .before .before .before .before .args .s) (c .before .before .before .before .before .before .before .before .judged .given .0 .0) (c .before .before .before .before .before .before .whole .result) (c .before .before .before .before .before .whole2 .result) (c .before .before .before .before .whole3 .result) (rw (c .before .before .before .before .before .before .whole .ensures, c .before .before .before .before .before .whole2 .ensures, c .before .before .before .before .whole3 .ensures, read-a d, read-b d, read-c d) (says d))) (c .before .before .write-values .ensures)
+    let at-whole2 = c .before .before .before .before .before in
+    let at-whole = at-whole2 .before in
+    let d = at-whole .before in
+    let at-judged = d .before in
+    let start = at-judged .before .before .before .before in
+    rw (accepted-answer (start .args .s) (at-judged .judged .given .0 .0) (at-whole .whole .result) (at-whole2 .whole2 .result)
+    (c .before .before .before .before .whole3 .result)
+    (rw (
+      at-whole .whole .ensures,
+      at-whole2 .whole2 .ensures,
+      c .before .before .before .before .whole3 .ensures,
+      read-a d,
+      read-b d,
+      read-c d,
+    ) (says d))) (c .before .before .write-values .ensures)
 
 same-length-2 : tie.Need-same-length-2
 same-length-2 c = search needs
 
 returns-2 : tie.Need-returns-2
 unfolding saidOf
-returns-2 c = rw (refused-answer (c .before .before .before .before .before .before .before .before .before .before .args .s) (c .before .before .before .before .before .before .judged2 .given .0 .0) (sym (ap saidOf (c .before .before .before .before .before .before .judged2 .given .1)) ∙ c .before .before .before .before .before .before .before .before .judge .ensures)) (c .before .before .write-one .ensures)
+returns-2 c =
+    let at-judged2 = c .before .before .before .before .before .before in
+    let at-judge = at-judged2 .before .before in
+    let start = at-judge .before .before in
+    rw (refused-answer (start .args .s) (at-judged2 .judged2 .given .0 .0)
+    (sym (ap saidOf (at-judged2 .judged2 .given .1)) ∙ at-judge .judge .ensures)) (c .before .before .write-one .ensures)
 
 pub write-settings-answer-spec : {M : Type 1} → statement M
-write-settings-answer-spec = tie.close (tie.spec judge-requires enum-known-judged whole-requires whole-requires-2 whole-requires-3 write-values-requires enum-known-judged-2 slice-aggregate-write-one cast-write-one write-one-requires same-length returns same-length-2 returns-2)
+write-settings-answer-spec =
+    tie.close (tie.spec judge-requires enum-known-judged whole-requires whole-requires-2 whole-requires-3
+    write-values-requires enum-known-judged-2 slice-aggregate-write-one cast-write-one write-one-requires same-length
+    returns same-length-2 returns-2)

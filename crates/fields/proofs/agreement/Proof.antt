@@ -1,4 +1,5 @@
--- The loop has passed i bytes that agree: what the two have in common is i and what they have in common from there on. Assumes nothing.
+-- The loop has passed i bytes that agree: what the two have in common is i and what they have in common from there on. Assumes
+-- nothing.
 use Prim.Native.Nat.{_+_, _-_, _≤_}
 use native.Mathlib.Omega.{arith}
 use native.Mathlib.Nat.{zero-add}
@@ -21,7 +22,14 @@ loop-holds : tie.Need-loop-holds Inv-loop μ-loop
 loop-holds c = (omega arith, sym (zero-add _))
 
 returns : tie.Need-returns Inv-loop μ-loop
-returns c = let l = c .before .before in omega (arith, l .loop .inv .1, agree-end (now (l .before .args .s)) (now (l .before .args .word)) (l .loop .i) (c .if1 .taken))
+returns c =
+    let l = c .before .before in
+    omega (
+      arith,
+      l .loop .inv .1,
+      agree-end (now (l .before .args .s)) (now (l .before .args .word)) (l .loop .i)
+          (c .if1 .taken),
+    )
 
 shared-slice-read-if2 : tie.Need-shared-slice-read-if2 Inv-loop μ-loop
 shared-slice-read-if2 c = omega arith
@@ -56,16 +64,5 @@ returns-3 c =
 
 pub agreement-spec : {M : Type 1} → statement M
 agreement-spec =
-    tie.close
-    (tie.spec
-    Inv-loop
-    μ-loop
-    loop-holds
-    returns
-    shared-slice-read-if2
-    shared-slice-read-if2-2
-    returns-2
-    add-i
-    loop-less
-    loop-again
-    returns-3)
+    tie.close (tie.spec Inv-loop μ-loop loop-holds returns shared-slice-read-if2 shared-slice-read-if2-2 returns-2 add-i
+    loop-less loop-again returns-3)

@@ -38,13 +38,5 @@ returns-2 c =
 
 pub part-from-spec : {M : Type 1} → statement M
 part-from-spec =
-    tie.close
-    (tie.spec
-    sub-result
-    part-result-start
-    part-result-end
-    sub-result-2
-    part-result-start-2
-    part-result-end-2
-    returns
-    returns-2)
+    tie.close (tie.spec sub-result part-result-start part-result-end sub-result-2 part-result-start-2 part-result-end-2
+    returns returns-2)

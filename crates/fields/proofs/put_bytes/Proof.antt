@@ -17,13 +17,23 @@ abbrev μ-loop : tie.MeasureT-loop
 μ-loop out₀ at bytes i₀ out i = length bytes - i
 
 returns : tie.Need-returns Inv-loop μ-loop
-returns c = let a = c .before .args in (sym (next-not (now (a .out)) (a .at) (now (a .bytes)) (omega arith)), sym (put-not (now (a .out)) (a .at) (now (a .bytes)) (omega arith)))
+returns c =
+    let a = c .before .args in (
+      sym (next-not (now (a .out)) (a .at) (now (a .bytes)) (omega arith)),
+      sym
+          (put-not (now (a .out)) (a .at) (now (a .bytes)) (omega arith)),
+    )
 
 sub-if2 : tie.Need-sub-if2 Inv-loop μ-loop
 sub-if2 c = omega arith
 
 returns-2 : tie.Need-returns-2 Inv-loop μ-loop
-returns-2 c = let a = c .before .before .args in (sym (next-not (now (a .out)) (a .at) (now (a .bytes)) (omega arith)), sym (put-not (now (a .out)) (a .at) (now (a .bytes)) (omega arith)))
+returns-2 c =
+    let a = c .before .before .args in (
+      sym (next-not (now (a .out)) (a .at) (now (a .bytes)) (omega arith)),
+      sym
+          (put-not (now (a .out)) (a .at) (now (a .bytes)) (omega arith)),
+    )
 
 loop-holds : tie.Need-loop-holds Inv-loop μ-loop
 loop-holds c = let a = c .before .before .args in (omega arith, refl, paste-zero (now (a .out)) (a .at) (now (a .bytes)))
@@ -49,7 +59,8 @@ loop-again c =
     let a = l .before .before .before .args in (
       omega arith,
       simp length-set (l .loop .inv .1),
-      rw (l .loop .inv .2, add-one) (paste-suc (now (a .out)) (a .at) (now (a .bytes)) (l .loop .i) 0 (omega arith) (omega arith)),
+      rw (l .loop .inv .2, add-one)
+          (paste-suc (now (a .out)) (a .at) (now (a .bytes)) (l .loop .i) 0 (omega arith) (omega arith)),
     )
 
 add-result : tie.Need-add-result Inv-loop μ-loop
@@ -71,20 +82,5 @@ returns-3 c =
 
 pub put-bytes-spec : {M : Type 1} → statement M
 put-bytes-spec =
-    tie.close
-    (tie.spec
-    Inv-loop
-    μ-loop
-    returns
-    sub-if2
-    returns-2
-    loop-holds
-    shared-slice-read-out
-    add-out
-    slice-write-out
-    add-i
-    loop-less
-    loop-again
-    add-result
-    same-length
-    returns-3)
+    tie.close (tie.spec Inv-loop μ-loop returns sub-if2 returns-2 loop-holds shared-slice-read-out add-out
+    slice-write-out add-i loop-less loop-again add-result same-length returns-3)

@@ -1,8 +1,7 @@
--- Each answer's number for C. Assumes nothing.
+-- The number of each kind of answer. Assumes nothing.
 use mathlib.Core.Path.{refl}
-use Rattle.fields.specs.Places.{begins, isExactly, agree}
 use Rattle.messages.specs.Answers.{said}
-use Rattle.firmware_rules.specs.Calls.{codeOf}
+use Rattle.firmware_rules.specs.Calls.{codeOfGiven, codeOf}
 use borrow.Author.Needs.{needs}
 use Rattle.firmware.proofs.code_of.Statement.{statement}
 use Rattle.firmware.proofs.code_of.Tie as tie
@@ -13,83 +12,25 @@ enum-known-answer c = search needs
 enum-told : tie.Need-enum-told
 enum-told c = search needs
 
-enum-told-2 : tie.Need-enum-told-2
-enum-told-2 c = search needs
+enum-known-answer-2 : tie.Need-enum-known-answer-2
+enum-known-answer-2 c = search needs
 
-enum-told-3 : tie.Need-enum-told-3
-enum-told-3 c = search needs
-
-enum-told-4 : tie.Need-enum-told-4
-enum-told-4 c = search needs
-
-enum-told-5 : tie.Need-enum-told-5
-enum-told-5 c = search needs
-
-enum-told-6 : tie.Need-enum-told-6
-enum-told-6 c = search needs
-
-enum-told-7 : tie.Need-enum-told-7
-enum-told-7 c = search needs
-
-enum-told-8 : tie.Need-enum-told-8
-enum-told-8 c = search needs
-
-enum-told-9 : tie.Need-enum-told-9
-enum-told-9 c = search needs
-
-enum-told-10 : tie.Need-enum-told-10
-enum-told-10 c = search needs
-
-enum-told-11 : tie.Need-enum-told-11
-enum-told-11 c = search needs
+code-of-word-requires : tie.Need-code-of-word-requires
+code-of-word-requires c κs = search needs
 
 returns : tie.Need-returns
-unfolding codeOf said isExactly begins agree
+unfolding codeOf said
 returns c = rw (c .before .answer .given .1) refl
 
 returns-2 : tie.Need-returns-2
-unfolding codeOf said isExactly begins agree
+unfolding codeOf codeOfGiven said
 returns-2 c = rw (c .enum-told .given .1) refl
 
 returns-3 : tie.Need-returns-3
-unfolding codeOf said isExactly begins agree
-returns-3 c = rw (c .enum-told2 .given .1) refl
-
-returns-4 : tie.Need-returns-4
-unfolding codeOf said isExactly begins agree
-returns-4 c = rw (c .enum-told3 .given .1) refl
-
-returns-5 : tie.Need-returns-5
-unfolding codeOf said isExactly begins agree
-returns-5 c = rw (c .enum-told4 .given .1) refl
-
-returns-6 : tie.Need-returns-6
-unfolding codeOf said isExactly begins agree
-returns-6 c = rw (c .enum-told5 .given .1) refl
-
-returns-7 : tie.Need-returns-7
-unfolding codeOf said isExactly begins agree
-returns-7 c = rw (c .enum-told6 .given .1) refl
-
-returns-8 : tie.Need-returns-8
-unfolding codeOf said isExactly begins agree
-returns-8 c = rw (c .enum-told7 .given .1) refl
-
-returns-9 : tie.Need-returns-9
-unfolding codeOf said isExactly begins agree
-returns-9 c = rw (c .enum-told8 .given .1) refl
-
-returns-10 : tie.Need-returns-10
-unfolding codeOf said isExactly begins agree
-returns-10 c = rw (c .enum-told9 .given .1) refl
-
-returns-11 : tie.Need-returns-11
-unfolding codeOf said isExactly begins agree
-returns-11 c = rw (c .enum-told10 .given .1) refl
-
-returns-12 : tie.Need-returns-12
-unfolding codeOf said isExactly begins agree
-returns-12 c = rw (c .enum-told11 .given .1) refl
+unfolding said
+returns-3 c = rw (c .before .before .answer2 .given .1) (c .code-of-word .ensures)
 
 pub code-of-spec : {M : Type 1} → statement M
-code-of-spec = tie.close (tie.spec enum-known-answer enum-told enum-told-2 enum-told-3 enum-told-4 enum-told-5 enum-told-6 enum-told-7 enum-told-8 enum-told-9 enum-told-10 enum-told-11 returns returns-2 returns-3 returns-4 returns-5 returns-6 returns-7 returns-8 returns-9 returns-10 returns-11 returns-12)
+code-of-spec =
+    tie.close (tie.spec enum-known-answer enum-told enum-known-answer-2 code-of-word-requires returns returns-2
+    returns-3)

@@ -1,10 +1,4 @@
--- The call's own refusals, then the step on the decoded record. Assumes nothing.
-use mathlib.Core.Path.{refl, sym, _∙_}
-use denote.Ref.{now}
-use Rattle.recorder_rules.specs.Recorder.{driveOf}
-use Rattle.firmware_rules.specs.Calls.{driveCall}
-use Rattle.firmware_rules.proofs.Calls.{size, goes, refused}
-use Rattle.record_bytes.proofs.Held.{held}
+-- The call with its event. Assumes nothing.
 use borrow.Author.Needs.{needs}
 use Rattle.firmware.proofs.recorder_drive.Statement.{statement}
 use Rattle.firmware.proofs.recorder_drive.Tie as tie
@@ -12,37 +6,14 @@ use Rattle.firmware.proofs.recorder_drive.Tie as tie
 settings-of-requires : tie.Need-settings-of-requires
 settings-of-requires c κs = search needs
 
-call-refusal-requires : tie.Need-call-refusal-requires
-call-refusal-requires c κs = search needs
+call-requires : tie.Need-call-requires
+call-requires c κs = search needs
 
 same-length : tie.Need-same-length
 same-length c = search needs
 
 returns : tie.Need-returns
-unfolding driveCall
-returns c =
-    let r = refused (c .before .before .before .settings-of .result) (now (c .before .before .before .before .before .args .buffer)) (λ rec. driveOf (c .before .before .before .settings-of .result) rec (c .before .before .before .before .before .args .reading)) (λ none. c .if1 .taken (c .before .call-refusal .ensures ∙ none)) in
-    rw (← (c .before .before .before .settings-of .ensures), r) (c .before .call-refusal .ensures, refl)
-
-record-in-requires : tie.Need-record-in-requires
-record-in-requires c κs = search needs
-
-drive-requires : tie.Need-drive-requires
-drive-requires c κs = search needs
-
-leave-requires : tie.Need-leave-requires
-leave-requires c κs = size (c .before .before .before .before .before .before .before .settings-of .result) (now (c .before .before .before .before .before .before .before .before .before .args .buffer)) (sym (c .before .before .before .before .before .call-refusal .ensures) ∙ c .before .before .before .before .if1 .left)
-
-same-length-2 : tie.Need-same-length-2
-same-length-2 c = search needs
-
-returns-2 : tie.Need-returns-2
-unfolding driveCall
-returns-2 c =
-    let buffer = now (c .before .before .before .before .before .before .before .before .before .before .before .before .args .buffer) in
-    let full = size (c .before .before .before .before .before .before .before .before .before .before .settings-of .result) buffer (sym (c .before .before .before .before .before .before .before .before .call-refusal .ensures) ∙ c .before .before .before .before .before .before .before .if1 .left) in
-    let g = goes (c .before .before .before .before .before .before .before .before .before .before .settings-of .result) (now (c .before .before .before .before .before .before .before .before .before .before .before .before .args .buffer)) (λ rec. driveOf (c .before .before .before .before .before .before .before .before .before .before .settings-of .result) rec (c .before .before .before .before .before .before .before .before .before .before .before .before .args .reading)) (sym (c .before .before .before .before .before .before .before .before .call-refusal .ensures) ∙ c .before .before .before .before .before .before .before .if1 .left) in
-    rw (← (c .before .before .before .before .before .before .before .before .before .before .settings-of .ensures), g, ← (c .before .before .before .before .before .record-in .ensures ∙ held buffer full), ← (c .before .before .before .drive .ensures)) (c .before .before .leave .ensures)
+returns c = rw (← (c .before .before .before .before .settings-of .ensures)) (c .before .before .call .ensures)
 
 pub recorder-drive-spec : {M : Type 1} → statement M
-recorder-drive-spec = tie.close (tie.spec settings-of-requires call-refusal-requires same-length returns record-in-requires drive-requires leave-requires same-length-2 returns-2)
+recorder-drive-spec = tie.close (tie.spec settings-of-requires call-requires same-length returns)

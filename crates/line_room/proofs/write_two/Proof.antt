@@ -7,8 +7,8 @@ use denote.Ref.{now}
 use lib.ListN.{length, length-append}
 use Rattle.words.specs.Lists.{text}
 use Rattle.words.specs.Said.Said.{gives}
-use Rattle.fields.specs.Decimals.{digits}
-use Rattle.fields.proofs.Digits.{digits-most}
+use Rattle.decimals.specs.Decimals.{digits}
+use Rattle.decimals.proofs.Digits.{digits-most}
 use Rattle.fields.proofs.Rooms.{put-none, put-then}
 use Rattle.lines_rules.specs.Writing.{twoNumbers}
 use Rattle.lines_rules.proofs.Lines.{fits-said, fits-room, short-said, short-room}
@@ -30,22 +30,52 @@ digit-count-requires : tie.Need-digit-count-requires
 digit-count-requires c κs = search needs
 
 add-if2 : tie.Need-add-if2
-add-if2 c = omega (arith, c .digit-count .ensures, digits-most 19 (c .before .before .before .before .before .args .first) (omega (arith, c .before .before .before .before .before .fits .first .fits)))
+add-if2 c =
+    let start = c .before .before .before .before .before in
+    omega (arith, c .digit-count .ensures, digits-most 19 (start .args .first) (omega (arith, start .fits .first .fits)))
 
 digit-count-requires-2 : tie.Need-digit-count-requires-2
 digit-count-requires-2 c κs = search needs
 
 add-if2-2 : tie.Need-add-if2-2
-add-if2-2 c = omega (arith, c .before .digit-count .ensures, c .digit-count2 .ensures, digits-most 19 (c .before .before .before .before .before .before .args .first) (omega (arith, c .before .before .before .before .before .before .fits .first .fits)), digits-most 19 (c .before .before .before .before .before .before .args .second) (omega (arith, c .before .before .before .before .before .before .fits .second .fits)))
+add-if2-2 c =
+    let start = c .before .before .before .before .before .before in
+    omega (
+      arith,
+      c .before .digit-count .ensures,
+      c .digit-count2 .ensures,
+      digits-most 19 (start .args .first)
+          (omega (arith, start .fits .first .fits)),
+      digits-most 19 (start .args .second) (omega (arith, start .fits .second .fits)),
+    )
 
 add-if2-3 : tie.Need-add-if2-3
-add-if2-3 c = omega (arith, c .before .digit-count .ensures, c .digit-count2 .ensures, digits-most 19 (c .before .before .before .before .before .before .args .first) (omega (arith, c .before .before .before .before .before .before .fits .first .fits)), digits-most 19 (c .before .before .before .before .before .before .args .second) (omega (arith, c .before .before .before .before .before .before .fits .second .fits)), c .before .before .before .before .before .before .good)
+add-if2-3 c =
+    let start = c .before .before .before .before .before .before in
+    omega (
+      arith,
+      c .before .digit-count .ensures,
+      c .digit-count2 .ensures,
+      digits-most 19 (start .args .first)
+          (omega (arith, start .fits .first .fits)),
+      digits-most 19 (start .args .second) (omega (arith, start .fits .second .fits)),
+      start .good,
+    )
 
 returns-2 : tie.Need-returns-2
 returns-2 c =
-    let a = c .before .before .before .before .before .before .before .args in
+    let start = c .before .before .before .before .before .before .before in
+    let a = start .args in
     let line = twoNumbers (now (a .word)) (a .first) (a .second) (now (a .end)) in
-    let short : length (now (a .out)) < length line = simp length-append (omega (arith, c .before .before .digit-count .ensures, c .before .digit-count2 .ensures, c .if2 .taken, c .before .before .before .if1 .left)) in
+    let short : length (now (a .out)) < length line =
+    simp length-append (omega (
+      arith,
+      c .before .before .digit-count .ensures,
+      c .before .digit-count2 .ensures,
+      c .if2 .taken,
+      c .before .before
+          .before .if1 .left,
+    )) in
     (sym (short-said line (now (a .out)) short), sym (short-room line (now (a .out)) short))
 
 put-bytes-requires : tie.Need-put-bytes-requires
@@ -71,18 +101,35 @@ same-length c = search needs
 
 returns-3 : tie.Need-returns-3
 returns-3 c =
-    let a = c .before .before .before .before .before .before .before .before .before .before .before .before .before .before .before .before .before .before .before .before .before .before .before .before .before .before .before .before .args in
+    let at-put-number2 = c .before .before .before .before .before .before in
+    let at-put-bytes2 = at-put-number2 .before .before .before .before in
+    let at-put-number = at-put-bytes2 .before .before .before .before .before in
+    let at-put-bytes = at-put-number .before .before .before .before in
+    let at-if2 = at-put-bytes .before .before in
+    let at-digit-count2 = at-if2 .before in
+    let at-digit-count = at-digit-count2 .before in
+    let at-if1 = at-digit-count .before in
+    let start = at-if1 .before .before .before .before in
+    let a = start .args in
     let word = now (a .word) in
     let first = digits (a .first) in
     let second = digits (a .second) in
     let end = now (a .end) in
     let room = now (a .out) in
-    let enough : length word + length first + 1 + length second + length end ≤ length room = omega (arith, c .before .before .before .before .before .before .before .before .before .before .before .before .before .before .before .before .before .before .before .before .before .before .before .digit-count .ensures, c .before .before .before .before .before .before .before .before .before .before .before .before .before .before .before .before .before .before .before .before .before .before .digit-count2 .ensures, c .before .before .before .before .before .before .before .before .before .before .before .before .before .before .before .before .before .before .before .before .before .before .before .before .if1 .left, c .before .before .before .before .before .before .before .before .before .before .before .before .before .before .before .before .before .before .before .before .before .if2 .left) in
+    let enough : length word + length first + 1 + length second + length end ≤ length room =
+    omega (
+      arith,
+      at-digit-count .digit-count .ensures,
+      at-digit-count2 .digit-count2 .ensures,
+      at-if1 .if1 .left,
+      at-if2
+          .if2 .left,
+    ) in
     let tab = text "\t" in
-    let p₁ = c .before .before .before .before .before .before .before .before .before .before .before .before .before .before .before .before .before .before .before .put-bytes .ensures in
-    let p₂ = c .before .before .before .before .before .before .before .before .before .before .before .before .before .before .before .put-number .ensures in
-    let p₃ = c .before .before .before .before .before .before .before .before .before .before .put-bytes2 .ensures in
-    let p₄ = c .before .before .before .before .before .before .put-number2 .ensures in
+    let p₁ = at-put-bytes .put-bytes .ensures in
+    let p₂ = at-put-number .put-number .ensures in
+    let p₃ = at-put-bytes2 .put-bytes2 .ensures in
+    let p₄ = at-put-number2 .put-number2 .ensures in
     let p₅ = c .before .before .put-bytes3 .ensures in
     let one = put-then [] room word (put-none room) (omega arith) (p₁ .0) (p₁ .1) in
     let two = put-then word room first one (omega arith) (p₂ .0) (p₂ .1) in
@@ -94,4 +141,7 @@ returns-3 c =
     (ap gives (five .place) ∙ sym (fits-said line room fits), five .holds ∙ sym (fits-room line room fits))
 
 pub write-two-spec : {M : Type 1} → statement M
-write-two-spec = tie.close (tie.spec returns sub-left digit-count-requires add-if2 digit-count-requires-2 add-if2-2 add-if2-3 returns-2 put-bytes-requires put-number-requires slice-aggregate-put-bytes put-bytes-requires-2 put-number-requires-2 put-bytes-requires-3 same-length returns-3)
+write-two-spec =
+    tie.close (tie.spec returns sub-left digit-count-requires add-if2 digit-count-requires-2 add-if2-2 add-if2-3
+    returns-2 put-bytes-requires put-number-requires slice-aggregate-put-bytes put-bytes-requires-2
+    put-number-requires-2 put-bytes-requires-3 same-length returns-3)

@@ -34,13 +34,4 @@ returns-4 c = rw (c .before .m4 .given .1)
 
 pub has-form-spec : {M : Type 1} → statement M
 has-form-spec =
-    tie.close
-    (tie.spec
-    enum-known-m
-    enum-known-m-2
-    enum-known-m-3
-    enum-known-m-4
-    returns
-    returns-2
-    returns-3
-    returns-4)
+    tie.close (tie.spec enum-known-m enum-known-m-2 enum-known-m-3 enum-known-m-4 returns returns-2 returns-3 returns-4)

@@ -26,13 +26,27 @@ returns : tie.Need-returns
 unfolding ended onlyNumber
 returns c =
     let n = c .before .before .before .before .before in
-    rw (← (c .before .before .before .before .before .before .before .read-number .ensures), n .number .given .1, ← (c .before .before .before .part-from .ensures), ← (c .before .is-exactly .ensures), c .if1 .taken)
+    let at-read-number = n .before .before in
+    rw (
+      ← (at-read-number .read-number .ensures),
+      n .number .given .1,
+      ← (c .before .before .before .part-from .ensures),
+      ← (c .before .is-exactly .ensures),
+      c .if1 .taken,
+    )
 
 returns-2 : tie.Need-returns-2
 unfolding ended onlyNumber
 returns-2 c =
     let n = c .before .before .before .before .before in
-    rw (← (c .before .before .before .before .before .before .before .read-number .ensures), n .number .given .1, ← (c .before .before .before .part-from .ensures), ← (c .before .is-exactly .ensures), c .if1 .left)
+    let at-read-number = n .before .before in
+    rw (
+      ← (at-read-number .read-number .ensures),
+      n .number .given .1,
+      ← (c .before .before .before .part-from .ensures),
+      ← (c .before .is-exactly .ensures),
+      c .if1 .left,
+    )
 
 returns-3 : tie.Need-returns-3
 unfolding ended onlyNumber
@@ -40,14 +54,5 @@ returns-3 c = rw (← (c .before .before .before .read-number .ensures), c .befo
 
 pub only-number-spec : {M : Type 1} → statement M
 only-number-spec =
-    tie.close
-    (tie.spec
-    read-number-requires
-    enum-known-number
-    part-from-requires
-    slice-aggregate-is-exactly
-    is-exactly-requires
-    enum-known-number-2
-    returns
-    returns-2
-    returns-3)
+    tie.close (tie.spec read-number-requires enum-known-number part-from-requires slice-aggregate-is-exactly
+    is-exactly-requires enum-known-number-2 returns returns-2 returns-3)

@@ -22,7 +22,12 @@ enum-told c = search needs
 returns : tie.Need-returns
 unfolding counterBehind readAck
 returns c =
-    rw (← (c .before .before .before .before .before .read-number .ensures), c .before .before .before .number .given .1, ← (c .before .part-from .ensures)) (c .read-ack-counter .ensures)
+    let at-read-number = c .before .before .before .before .before in
+    rw (
+      ← (at-read-number .read-number .ensures),
+      c .before .before .before .number .given .1,
+      ← (c .before .part-from .ensures),
+    ) (c .read-ack-counter .ensures)
 
 returns-2 : tie.Need-returns-2
 unfolding counterBehind readAck
@@ -30,12 +35,5 @@ returns-2 c = rw (← (c .before .before .read-number .ensures), c .enum-told .g
 
 pub read-ack-spec : {M : Type 1} → statement M
 read-ack-spec =
-    tie.close
-    (tie.spec
-    read-number-requires
-    enum-known-number
-    part-from-requires
-    read-ack-counter-requires
-    enum-told
-    returns
-    returns-2)
+    tie.close (tie.spec read-number-requires enum-known-number part-from-requires read-ack-counter-requires enum-told
+    returns returns-2)

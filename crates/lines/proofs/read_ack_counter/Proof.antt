@@ -36,12 +36,16 @@ enum-told c = search needs
 returns-2 : tie.Need-returns-2
 unfolding statusBehind readAckCounter
 returns-2 c =
-    let s = c .before .before .before .before .before .before .before .before .starts in
+    let at-read-number = c .before .before .before .before .before in
+    let at-part-from = at-read-number .before in
+    let at-if1 = at-part-from .before in
+    let at-starts = at-if1 .before in
+    let s = at-starts .starts in
     rw (
       ← (s .ensures),
-      not-false (s .result) (c .before .before .before .before .before .before .before .if1 .left),
-      ← (c .before .before .before .before .before .before .part-from .ensures),
-      ← (c .before .before .before .before .before .read-number .ensures),
+      not-false (s .result) (at-if1 .if1 .left),
+      ← (at-part-from .part-from .ensures),
+      ← (at-read-number .read-number .ensures),
       c .before .before .before .number .given .1,
       ← (c .before .part-from2 .ensures),
     )
@@ -50,7 +54,8 @@ returns-2 c =
 returns-3 : tie.Need-returns-3
 unfolding statusBehind readAckCounter
 returns-3 c =
-    let s = c .before .before .before .before .before .starts in
+    let at-starts = c .before .before .before .before .before in
+    let s = at-starts .starts in
     rw (
       ← (s .ensures),
       not-false (s .result) (c .before .before .before .before .if1 .left),
@@ -61,16 +66,5 @@ returns-3 c =
 
 pub read-ack-counter-spec : {M : Type 1} → statement M
 read-ack-counter-spec =
-    tie.close
-    (tie.spec
-    slice-aggregate-starts
-    starts-requires
-    returns
-    part-from-requires
-    read-number-requires
-    enum-known-number
-    part-from-requires-2
-    read-ack-status-requires
-    enum-told
-    returns-2
-    returns-3)
+    tie.close (tie.spec slice-aggregate-starts starts-requires returns part-from-requires read-number-requires
+    enum-known-number part-from-requires-2 read-ack-status-requires enum-told returns-2 returns-3)

@@ -22,20 +22,25 @@ is-exactly-requires-2 c κs = search needs
 
 returns-2 : tie.Need-returns-2
 unfolding readAckStatus
-returns-2 c = rw (← (c .before .before .before .before .is-exactly .ensures), c .before .before .before .if1 .left, ← (c .before .is-exactly2 .ensures), c .if2 .taken)
+returns-2 c =
+    rw (
+      ← (c .before .before .before .before .is-exactly .ensures),
+      c .before .before .before .if1 .left,
+      ← (c .before .is-exactly2 .ensures),
+      c .if2 .taken,
+    )
 
 returns-3 : tie.Need-returns-3
 unfolding readAckStatus
-returns-3 c = rw (← (c .before .before .before .before .is-exactly .ensures), c .before .before .before .if1 .left, ← (c .before .is-exactly2 .ensures), c .if2 .left)
+returns-3 c =
+    rw (
+      ← (c .before .before .before .before .is-exactly .ensures),
+      c .before .before .before .if1 .left,
+      ← (c .before .is-exactly2 .ensures),
+      c .if2 .left,
+    )
 
 pub read-ack-status-spec : {M : Type 1} → statement M
 read-ack-status-spec =
-    tie.close
-    (tie.spec
-    slice-aggregate-is-exactly
-    is-exactly-requires
-    returns
-    slice-aggregate-is-exactly-2
-    is-exactly-requires-2
-    returns-2
-    returns-3)
+    tie.close (tie.spec slice-aggregate-is-exactly is-exactly-requires returns slice-aggregate-is-exactly-2
+    is-exactly-requires-2 returns-2 returns-3)

@@ -81,10 +81,12 @@ same-length c = search needs
 returns-2 : tie.Need-returns-2
 unfolding writeSaid writeRoom
 returns-2 c =
-    let e = c .before .before .before .before .before .before .m .given .1 in
+    let at-m = c .before .before .before .before .before .before in
+    let earlier = at-m .before .before in
+    let e = at-m .m .given .1 in
     let w = c .before .before .write-one .ensures in
-    let f = formed (c .before .before .before .before .before .before .before .before) in
-    rw (f, e, request-line (c .before .before .before .before .before .before .m .given .0 .0)) w
+    let f = formed earlier in
+    rw (f, e, request-line (at-m .m .given .0 .0)) w
 
 same-length-2 : tie.Need-same-length-2
 same-length-2 c = search needs
@@ -92,10 +94,12 @@ same-length-2 c = search needs
 returns-3 : tie.Need-returns-3
 unfolding writeSaid writeRoom
 returns-3 c =
-    let e = c .before .before .before .before .before .before .m2 .given .1 in
+    let at-m2 = c .before .before .before .before .before .before in
+    let earlier = at-m2 .before .before in
+    let e = at-m2 .m2 .given .1 in
     let w = c .before .before .write-one2 .ensures in
-    let f = formed (c .before .before .before .before .before .before .before .before) in
-    rw (f, e, grant-line (c .before .before .before .before .before .before .m2 .given .0 .0)) w
+    let f = formed earlier in
+    rw (f, e, grant-line (at-m2 .m2 .given .0 .0)) w
 
 same-length-3 : tie.Need-same-length-3
 same-length-3 c = search needs
@@ -103,10 +107,12 @@ same-length-3 c = search needs
 returns-4 : tie.Need-returns-4
 unfolding writeSaid writeRoom
 returns-4 c =
-    let e = c .before .before .before .before .before .before .m3 .given .1 in
+    let at-m3 = c .before .before .before .before .before .before in
+    let earlier = at-m3 .before .before in
+    let e = at-m3 .m3 .given .1 in
     let w = c .before .before .write-one3 .ensures in
-    let f = formed (c .before .before .before .before .before .before .before .before) in
-    rw (f, e, check-line (c .before .before .before .before .before .before .m3 .given .0 .0)) w
+    let f = formed earlier in
+    rw (f, e, check-line (at-m3 .m3 .given .0 .0)) w
 
 same-length-4 : tie.Need-same-length-4
 same-length-4 c = search needs
@@ -114,9 +120,12 @@ same-length-4 c = search needs
 returns-5 : tie.Need-returns-5
 unfolding writeSaid writeRoom
 returns-5 c =
-    let m = c .before .before .before .before .before .before .before .before .before .m4 .given in
-    let e = m .1 ∙ ap (CheckAck (m .0 .0) (m .0 .1 .0)) (c .before .before .before .before .before .before .enum-told .given .1) in
-    let f = formed (c .before .before .before .before .before .before .before .before .before .before .before) in
+    let at-enum-told = c .before .before .before .before .before .before in
+    let at-m4 = at-enum-told .before .before .before in
+    let earlier = at-m4 .before .before in
+    let m = at-m4 .m4 .given in
+    let e = m .1 ∙ ap (CheckAck (m .0 .0) (m .0 .1 .0)) (at-enum-told .enum-told .given .1) in
+    let f = formed earlier in
     rw (f, e, alive-line (m .0 .0) (m .0 .1 .0)) (c .before .before .write-two .ensures)
 
 same-length-5 : tie.Need-same-length-5
@@ -125,42 +134,19 @@ same-length-5 c = search needs
 returns-6 : tie.Need-returns-6
 unfolding writeSaid writeRoom
 returns-6 c =
-    let m = c .before .before .before .before .before .before .before .before .before .m4 .given in
-    let e = m .1 ∙ ap (CheckAck (m .0 .0) (m .0 .1 .0)) (c .before .before .before .before .before .before .enum-told2 .given .1) in
-    let f = formed (c .before .before .before .before .before .before .before .before .before .before .before) in
+    let at-enum-told2 = c .before .before .before .before .before .before in
+    let at-m4 = at-enum-told2 .before .before .before in
+    let earlier = at-m4 .before .before in
+    let m = at-m4 .m4 .given in
+    let e = m .1 ∙ ap (CheckAck (m .0 .0) (m .0 .1 .0)) (at-enum-told2 .enum-told2 .given .1) in
+    let f = formed earlier in
     rw (f, e, dead-line (m .0 .0) (m .0 .1 .0)) (c .before .before .write-two2 .ensures)
 
 pub write-line-spec : {M : Type 1} → statement M
 write-line-spec =
-    tie.close
-    (tie.spec
-    has-form-requires
-    returns
-    enum-known-m
-    slice-aggregate-write-one
-    write-one-requires
-    enum-known-m-2
-    slice-aggregate-write-one-2
-    write-one-requires-2
-    enum-known-m-3
-    slice-aggregate-write-one-3
-    write-one-requires-3
-    enum-known-m-4
-    enum-told
-    slice-aggregate-write-two
-    slice-aggregate-write-two-2
-    write-two-requires
-    enum-told-2
-    slice-aggregate-write-two-3
-    slice-aggregate-write-two-4
-    write-two-requires-2
-    same-length
-    returns-2
-    same-length-2
-    returns-3
-    same-length-3
-    returns-4
-    same-length-4
-    returns-5
-    same-length-5
+    tie.close (tie.spec has-form-requires returns enum-known-m slice-aggregate-write-one write-one-requires
+    enum-known-m-2 slice-aggregate-write-one-2 write-one-requires-2 enum-known-m-3 slice-aggregate-write-one-3
+    write-one-requires-3 enum-known-m-4 enum-told slice-aggregate-write-two slice-aggregate-write-two-2
+    write-two-requires enum-told-2 slice-aggregate-write-two-3 slice-aggregate-write-two-4 write-two-requires-2
+    same-length returns-2 same-length-2 returns-3 same-length-3 returns-4 same-length-4 returns-5 same-length-5
     returns-6)

@@ -1,35 +1,38 @@
 -- `observer::cut_refusal` meets its contract: 9 comes after the numbers before it. Assumes nothing.
 use mathlib.Core.Path.{_≡_, refl, sym, _∙_}
-use mathlib.Core.List.{[], _∷_}
+use mathlib.Core.List.{List, [], _∷_}
 use borrow.Author.Needs.{needs}
 use borrow.Author.Tests.{lt-ltb, le-ltb}
 use Rattle.words.specs.Tests.{_<?_}
-use Rattle.words.specs.Said.{_when_, first}
+use Rattle.words.specs.Said.{Refusal, _when_, first}
 use Rattle.words.specs.Lists.{every}
+use Rattle.words.proofs.Said.{first-stays, first-goes-on}
 use Rattle.observer_rules.specs.Observer.{requestRefusals, cutRefusals}
-use Rattle.observer_rules.proofs.Refusals.{still-refused, passed-on}
 use Rattle.observer.proofs.cut_refusal.Statement.{statement}
 use Rattle.observer.proofs.cut_refusal.Tie as tie
 
 request-refusal-requires : tie.Need-request-refusal-requires
 request-refusal-requires c κs = search needs
 
-returns : tie.Need-returns
-returns c =
-    let a = c .before .before .args in
-    still-refused (requestRefusals (a .s) (a .o) (a .x) (a .reading) (a .counter)) _ (c .before .request-refusal .ensures) (c .if1 .taken)
+-- the lines before 9, and 9
+abbrev sooner : (c : tie.Start) → List Refusal
+sooner c = let a = c .args in requestRefusals (a .s) (a .o) (a .x) (a .reading) (a .counter)
 
-none-before : (c : tie.Else1) → let a = c .before .before .args in first (requestRefusals (a .s) (a .o) (a .x) (a .reading) (a .counter)) ≡ 0
-none-before c = sym (c .before .request-refusal .ensures) ∙ c .if1 .left
+abbrev line : (c : tie.Start) → List Refusal
+line c = 9 when (2 <? c .args .stores) ∷ []
+
+returns : tie.Need-returns
+unfolding every
+returns c =
+    let b = c .before .before in first-stays (sooner b) (line b) refl (c .before .request-refusal .ensures) (c .if1 .taken)
 
 -- nothing before it applies: 9 alone decides
 only-9 : (c : tie.Else1)
     → let a = c .before .before .args in
-    first (cutRefusals (a .s) (a .o) (a .x) (a .reading) (a .counter) (a .stores)) ≡ first (9 when (2 <? a .stores) ∷ [])
+    first (cutRefusals (a .s) (a .o) (a .x) (a .reading) (a .counter) (a .stores)) ≡ first (line (c .before .before))
 unfolding every
 only-9 c =
-    let a = c .before .before .args in
-    passed-on (requestRefusals (a .s) (a .o) (a .x) (a .reading) (a .counter)) (9 when (2 <? a .stores) ∷ []) refl (none-before c)
+    let b = c .before .before in first-goes-on (sooner b) (line b) refl (c .before .request-refusal .ensures) (c .if1 .left)
 
 returns-2 : tie.Need-returns-2
 unfolding first

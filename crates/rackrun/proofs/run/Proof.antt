@@ -11,12 +11,16 @@ use borrow.Author.Needs.{needs}
 use Rattle.rackrun.proofs.run.Statement.{statement}
 use Rattle.rackrun.proofs.run.Tie as tie
 
-fits : (c : tie.After-known-told) → c .before .answered .given .0 .0 ≤ length (c .before .before .before .before .before .answer-file .last .1 .0)
+fits : (c : tie.After-known-told)
+    → let at-answer-file = c .before .before .before .before .before in
+    c .before .answered .given .0 .0 ≤ length (at-answer-file .answer-file .last .1 .0)
 fits c =
     let called = c .before .before .before .before .before in
     let a = called .before .before .before .before .args in
     let kept : length (called .answer-file .last .1 .0) ≡ length (now (a .out)) = search needs in
-    let k = in-room (now (a .input)) (now (a .out)) (c .before .answered .given .0 .0) (sym (ap saidOfAnswered (c .before .answered .given .1)) ∙ called .answer-file .ensures .0) in
+    let k =
+    in-room (now (a .input)) (now (a .out)) (c .before .answered .given .0 .0)
+    (sym (ap saidOfAnswered (c .before .answered .given .1)) ∙ called .answer-file .ensures .0) in
     omega (arith, k, kept)
 
 answer-file-requires : tie.Need-answer-file-requires
@@ -34,7 +38,8 @@ slice-reshare-prefix-write-output c = fits (c .before)
 slice-aggregate-write-output-2 : tie.Need-slice-aggregate-write-output-2
 slice-aggregate-write-output-2 c =
     let told = c .before .before in
-    sym (length-take-le (told .before .answered .given .0 .0) (told .before .before .before .before .before .answer-file .last .1 .0) (fits told))
+    sym (length-take-le (told .before .answered .given .0 .0)
+    (told .before .before .before .before .before .answer-file .last .1 .0) (fits told))
 
 write-output-requires : tie.Need-write-output-requires
 write-output-requires c κs = search needs
@@ -56,16 +61,6 @@ returns-2 c = search needs
 
 pub run-spec : {M : Type 1} → statement M
 run-spec =
-    tie.close
-    (tie.spec
-    answer-file-requires
-    enum-known-answered
-    slice-aggregate-write-output
-    slice-reshare-prefix-write-output
-    slice-aggregate-write-output-2
-    write-output-requires
-    enum-told
-    same-length
-    returns
-    same-length-2
-    returns-2)
+    tie.close (tie.spec answer-file-requires enum-known-answered slice-aggregate-write-output
+    slice-reshare-prefix-write-output slice-aggregate-write-output-2 write-output-requires enum-told same-length returns
+    same-length-2 returns-2)

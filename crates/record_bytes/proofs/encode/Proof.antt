@@ -34,8 +34,27 @@ same-length c = search needs
 
 returns : tie.Need-returns
 returns c =
-    let full = sized (c .before .before .before .before .before .before .before .before .before .before .before .before .before .before .before .before .before .before .before .before .before .before .before .before .before .before .before .before .before .before .before .args .rec) _ (c .before .before .before .before .before .before .before .before .before .before .before .before .before .before .before .before .before .before .before .before .before .before .before .before .before .before .before .before .before .before .before .good .1 .0) in
-    c .before .before .put-grants .ensures ∙ rw (c .before .before .before .before .before .before .put-sends .ensures, c .before .before .before .before .before .before .before .before .before .before .before .before .put-word5 .ensures, c .before .before .before .before .before .before .before .before .before .before .before .before .before .before .before .before .put-word4 .ensures, c .before .before .before .before .before .before .before .before .before .before .before .before .before .before .before .before .before .before .before .before .put-word3 .ensures, c .before .before .before .before .before .before .before .before .before .before .before .before .before .before .before .before .before .before .before .before .before .before .before .before .put-word2 .ensures, c .before .before .before .before .before .before .before .before .before .before .before .before .before .before .before .before .before .before .before .before .before .before .before .before .before .before .before .before .put-word .ensures) (record-put (now (c .before .before .before .before .before .before .before .before .before .before .before .before .before .before .before .before .before .before .before .before .before .before .before .before .before .before .before .before .before .before .before .args .b)) (c .before .before .before .before .before .before .before .before .before .before .before .before .before .before .before .before .before .before .before .before .before .before .before .before .before .before .before .before .before .before .before .args .rec) (c .before .before .before .before .before .before .before .before .before .before .before .before .before .before .before .before .before .before .before .before .before .before .before .before .before .before .before .before .before .before .before .pre) (full .sends) (full .grants))
+    let at-put-sends = c .before .before .before .before .before .before in
+    let at-put-word5 = at-put-sends .before .before .before .before .before .before in
+    let at-put-word4 = at-put-word5 .before .before .before .before in
+    let at-put-word3 = at-put-word4 .before .before .before .before in
+    let at-put-word2 = at-put-word3 .before .before .before .before in
+    let at-put-word = at-put-word2 .before .before .before .before in
+    let start = at-put-word .before .before .before in
+    let full = sized (start .args .rec) _ (start .good .1 .0) in
+    c .before .before .put-grants .ensures
+    ∙ rw (
+      at-put-sends .put-sends .ensures,
+      at-put-word5 .put-word5 .ensures,
+      at-put-word4 .put-word4 .ensures,
+      at-put-word3
+          .put-word3 .ensures,
+      at-put-word2 .put-word2 .ensures,
+      at-put-word .put-word .ensures,
+    )
+    (record-put (now (start .args .b)) (start .args .rec) (start .pre) (full .sends) (full .grants))
 
 pub encode-spec : {M : Type 1} → statement M
-encode-spec = tie.close (tie.spec put-word-requires put-word-requires-2 put-word-requires-3 put-word-requires-4 put-word-requires-5 put-sends-requires put-grants-requires same-length returns)
+encode-spec =
+    tie.close (tie.spec put-word-requires put-word-requires-2 put-word-requires-3 put-word-requires-4
+    put-word-requires-5 put-sends-requires put-grants-requires same-length returns)

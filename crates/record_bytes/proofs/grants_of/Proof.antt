@@ -50,9 +50,15 @@ loop-again c =
     let i = c .before .before .loop .i in
     let l = drop 552 b in
     let w = c .word-at .result in
-    let read : w ≡ wordOf (take 8 (drop (8 * i) l)) = c .word-at .ensures ∙ ap (λ (part : List ℕ). wordOf (take 8 part)) (sym (drop-drop (8 * i) 552 b)) in
-    let more : wordsAt i l ++ (w ∷ []) ≡ wordsAt (i + 1) l = rw (add-one i) (ap (λ (x : ℕ). wordsAt i l ++ (x ∷ [])) read ∙ sym (words-more i l)) in
-    (omega (arith, c .before .loop-test .taken), rw (c .before .before .loop .inv .1) (fill-next 16 i (wordsAt i l) w (words-length i l) (c .before .loop-test .taken) ∙ ap (λ (ws : List ℕ). ws ++ replicate (16 - (i + 1)) 0) more))
+    let read : w ≡ wordOf (take 8 (drop (8 * i) l)) =
+    c .word-at .ensures ∙ ap (λ (part : List ℕ). wordOf (take 8 part)) (sym (drop-drop (8 * i) 552 b)) in
+    let more : wordsAt i l ++ (w ∷ []) ≡ wordsAt (i + 1) l =
+    rw (add-one i) (ap (λ (x : ℕ). wordsAt i l ++ (x ∷ [])) read ∙ sym (words-more i l)) in (
+      omega (arith, c .before .loop-test .taken),
+      rw (c .before .before .loop .inv .1)
+          (fill-next 16 i (wordsAt i l) w (words-length i l) (c .before .loop-test .taken) ∙ ap
+          (λ (ws : List ℕ). ws ++ replicate (16 - (i + 1)) 0) more),
+    )
 
 returns : tie.Need-returns Inv-loop μ-loop
 returns c =
@@ -61,4 +67,6 @@ returns c =
     c .before .loop .inv .1 ∙ rw all (append-nil (wordsAt 16 l))
 
 pub grants-of-spec : {M : Type 1} → statement M
-grants-of-spec = tie.close (tie.spec Inv-loop μ-loop loop-holds mul-word-at add-word-at word-at-requires mul-grants array-write-grants add-i loop-less loop-again returns)
+grants-of-spec =
+    tie.close (tie.spec Inv-loop μ-loop loop-holds mul-word-at add-word-at word-at-requires mul-grants
+    array-write-grants add-i loop-less loop-again returns)

@@ -37,7 +37,8 @@ add-put-word : tie.Need-add-put-word Inv-loop μ-loop
 add-put-word c = omega (arith, c .before .loop-test .taken)
 
 put-word-requires : tie.Need-put-word-requires Inv-loop μ-loop
-put-word-requires c κs = omega (arith, c .before .before .before .before .pre, c .before .loop-test .taken, c .before .before .loop .inv .1)
+put-word-requires c κs =
+    omega (arith, c .before .before .before .before .pre, c .before .loop-test .taken, c .before .before .loop .inv .1)
 
 add-i : tie.Need-add-i Inv-loop μ-loop
 add-i c = omega (arith, c .before .before .before .before .loop-test .taken)
@@ -47,11 +48,16 @@ loop-less c = omega (arith, c .before .before .before .before .loop-test .taken)
 
 loop-again : tie.Need-loop-again Inv-loop μ-loop
 loop-again c =
-    let b = now (c .before .before .before .before .before .before .before .args .b) in
+    let at-loop = c .before .before .before .before .before in
+    let start = at-loop .before .before in
+    let b = now (start .args .b) in
     let e = c .before .before .put-word .ensures in (
       omega (arith, c .before .before .before .before .loop-test .taken),
-      ap length e ∙ length-put _ _ _ ∙ c .before .before .before .before .before .loop .inv .1,
-      e ∙ rw (c .before .before .before .before .before .loop .inv .2) (puts-next b 40 (c .before .before .before .before .before .loop .i) (c .before .before .before .before .before .before .before .args .t2) (omega (arith, c .before .before .before .before .loop-test .taken)) (omega (arith, c .before .before .before .before .before .before .before .pre))),
+      ap length e ∙ length-put _ _ _ ∙ at-loop .loop .inv
+          .1,
+      e ∙ rw (at-loop .loop .inv .2)
+          (puts-next b 40 (at-loop .loop .i) (start .args .t2) (omega (arith, c .before .before .before .before .loop-test .taken))
+          (omega (arith, start .pre))),
     )
 
 same-length : tie.Need-same-length Inv-loop μ-loop
@@ -60,7 +66,10 @@ same-length c = c .before .loop .inv .1
 returns : tie.Need-returns Inv-loop μ-loop
 returns c =
     let all : c .before .loop .i ≡ 64 = omega (arith, c .before .loop .inv .0, c .loop-test .left) in
-    c .before .loop .inv .2 ∙ ap (λ (ws : List ℕ). putAt (now (c .before .before .before .args .b)) 40 (bytesOf ws)) (take-all (c .before .loop .i) (c .before .before .before .args .t2) (omega (arith, all)))
+    c .before .loop .inv .2 ∙ ap (λ (ws : List ℕ). putAt (now (c .before .before .before .args .b)) 40 (bytesOf ws))
+    (take-all (c .before .loop .i) (c .before .before .before .args .t2) (omega (arith, all)))
 
 pub put-sends-spec : {M : Type 1} → statement M
-put-sends-spec = tie.close (tie.spec Inv-loop μ-loop loop-holds mul-send array-read-send mul-put-word add-put-word put-word-requires add-i loop-less loop-again same-length returns)
+put-sends-spec =
+    tie.close (tie.spec Inv-loop μ-loop loop-holds mul-send array-read-send mul-put-word add-put-word put-word-requires
+    add-i loop-less loop-again same-length returns)

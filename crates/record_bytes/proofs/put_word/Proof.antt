@@ -95,7 +95,11 @@ returns c =
     let e5 : at + 5 ≡ suc (suc (suc (suc (suc (at))))) = omega arith in
     let e6 : at + 6 ≡ suc (suc (suc (suc (suc (suc (at)))))) = omega arith in
     let e7 : at + 7 ≡ suc (suc (suc (suc (suc (suc (suc (at))))))) = omega arith in
-    rw (e1, e2, e3, e4, e5, e6, e7) (sets-eq (bytesIn 8 (c .args .word)) b at (c .pre) ∙ sym (put-fits b at (bytesIn 8 (c .args .word)) (c .pre)))
+    rw (e1, e2, e3, e4, e5, e6, e7)
+    (sets-eq (bytesIn 8 (c .args .word)) b at (c .pre) ∙ sym (put-fits b at (bytesIn 8 (c .args .word)) (c .pre)))
 
 pub put-word-spec : {M : Type 1} → statement M
-put-word-spec = tie.close (tie.spec cast-b slice-write-b cast-b-2 add-b slice-write-b-2 cast-b-3 add-b-2 slice-write-b-3 cast-b-4 add-b-3 slice-write-b-4 cast-b-5 add-b-4 slice-write-b-5 cast-b-6 add-b-5 slice-write-b-6 cast-b-7 add-b-6 slice-write-b-7 cast-b-8 add-b-7 slice-write-b-8 same-length returns)
+put-word-spec =
+    tie.close (tie.spec cast-b slice-write-b cast-b-2 add-b slice-write-b-2 cast-b-3 add-b-2 slice-write-b-3 cast-b-4
+    add-b-3 slice-write-b-4 cast-b-5 add-b-4 slice-write-b-5 cast-b-6 add-b-5 slice-write-b-6 cast-b-7 add-b-6
+    slice-write-b-7 cast-b-8 add-b-7 slice-write-b-8 same-length returns)

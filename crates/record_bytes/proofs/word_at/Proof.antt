@@ -118,7 +118,17 @@ add-result : tie.Need-add-result
 add-result c = search needs
 
 returns : tie.Need-returns
-returns c = rw (word-bytes (now (c .before .before .before .before .before .before .before .before .before .before .before .before .before .before .before .before .before .args .b)) (c .before .before .before .before .before .before .before .before .before .before .before .before .before .before .before .before .before .args .at) (c .before .before .before .before .before .before .before .before .before .before .before .before .before .before .before .before .before .pre)) (omega arith)
+returns c =
+    let start =
+    c .before .before .before .before .before .before .before .before .before .before .before .before .before .before
+    .before .before .before in
+    rw (word-bytes (now (start .args .b)) (start .args .at) (start .pre)) (omega arith)
 
 pub word-at-spec : {M : Type 1} → statement M
-word-at-spec = tie.close (tie.spec add-wide shared-slice-read-wide wide-requires add-wide-2 shared-slice-read-wide-2 wide-requires-2 mul-from-6 add-from-6 add-wide-3 shared-slice-read-wide-3 wide-requires-3 mul-from-5 add-from-5 add-wide-4 shared-slice-read-wide-4 wide-requires-4 mul-from-4 add-from-4 add-wide-5 shared-slice-read-wide-5 wide-requires-5 mul-from-3 add-from-3 add-wide-6 shared-slice-read-wide-6 wide-requires-6 mul-from-2 add-from-2 add-wide-7 shared-slice-read-wide-7 wide-requires-7 mul-from-1 add-from-1 shared-slice-read-wide-8 wide-requires-8 mul-result add-result returns)
+word-at-spec =
+    tie.close (tie.spec add-wide shared-slice-read-wide wide-requires add-wide-2 shared-slice-read-wide-2
+    wide-requires-2 mul-from-6 add-from-6 add-wide-3 shared-slice-read-wide-3 wide-requires-3 mul-from-5 add-from-5
+    add-wide-4 shared-slice-read-wide-4 wide-requires-4 mul-from-4 add-from-4 add-wide-5 shared-slice-read-wide-5
+    wide-requires-5 mul-from-3 add-from-3 add-wide-6 shared-slice-read-wide-6 wide-requires-6 mul-from-2 add-from-2
+    add-wide-7 shared-slice-read-wide-7 wide-requires-7 mul-from-1 add-from-1 shared-slice-read-wide-8 wide-requires-8
+    mul-result add-result returns)

@@ -38,15 +38,5 @@ returns-2 c = search needs
 
 pub line-length-spec : {M : Type 1} → statement M
 line-length-spec =
-    tie.close
-    (tie.spec
-    Inv-loop
-    μ-loop
-    loop-holds
-    shared-slice-read-if1
-    add-result
-    returns
-    add-i
-    loop-less
-    loop-again
+    tie.close (tie.spec Inv-loop μ-loop loop-holds shared-slice-read-if1 add-result returns add-i loop-less loop-again
     returns-2)

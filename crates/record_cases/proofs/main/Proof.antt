@@ -24,7 +24,10 @@ array-share-prefix-room : tie.Need-array-share-prefix-room
 array-share-prefix-room c = rw (c .before .input .given .1) at (c .before .before .before .before .read-input .ensures)
 
 slice-aggregate-run : tie.Need-slice-aggregate-run
-slice-aggregate-run c = sym (length-take-le (c .before .before .input .given .0 .0) _ (rw (c .before .before .input .given .1) at (c .before .before .before .before .before .read-input .ensures)))
+slice-aggregate-run c =
+    let at-read-input = c .before .before .before .before .before in
+    sym (length-take-le (c .before .before .input .given .0 .0) _
+    (rw (c .before .before .input .given .1) at (at-read-input .read-input .ensures)))
 
 run-requires : tie.Need-run-requires
 run-requires c κs = search needs
@@ -40,16 +43,6 @@ returns-2 c = search needs
 
 pub main-spec : {M : Type 1} → statement M
 main-spec =
-    tie.close
-    (tie.spec
-    large-buffer-requires
-    slice-aggregate-read-input
-    slice-aggregate-read-input-2
-    read-input-requires
-    enum-known-input
-    array-share-prefix-room
-    slice-aggregate-run
-    run-requires
-    enum-told
-    returns
+    tie.close (tie.spec large-buffer-requires slice-aggregate-read-input slice-aggregate-read-input-2
+    read-input-requires enum-known-input array-share-prefix-room slice-aggregate-run run-requires enum-told returns
     returns-2)

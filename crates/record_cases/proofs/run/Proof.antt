@@ -40,7 +40,8 @@ slice-aggregate-perform : tie.Need-slice-aggregate-perform Inv-loop μ-loop
 slice-aggregate-perform c =
     let a = c .before .before .before .before .before in
     let input = now (a .before .before .before .args .input) in
-    sym (length-take-le (c .before .before .line-length .result) (take (length input - a .loop .at) (drop (a .loop .at) input)) (c .before .before .line-length .ensures))
+    sym (length-take-le (c .before .before .line-length .result) (take (length input - a .loop .at) (drop (a .loop .at) input))
+    (c .before .before .line-length .ensures))
 
 perform-requires : tie.Need-perform-requires Inv-loop μ-loop
 perform-requires c κs = search needs
@@ -59,20 +60,5 @@ returns-2 c = search needs
 
 pub run-spec : {M : Type 1} → statement M
 run-spec =
-    tie.close
-    (tie.spec
-    Inv-loop
-    μ-loop
-    fresh-requires
-    loop-holds
-    sub-rest
-    part-rest-start
-    part-rest-end
-    line-length-requires
-    returns
-    slice-aggregate-perform
-    perform-requires
-    add-at
-    loop-less
-    loop-again
-    returns-2)
+    tie.close (tie.spec Inv-loop μ-loop fresh-requires loop-holds sub-rest part-rest-start part-rest-end
+    line-length-requires returns slice-aggregate-perform perform-requires add-at loop-less loop-again returns-2)

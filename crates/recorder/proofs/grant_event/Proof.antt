@@ -28,12 +28,5 @@ returns c = rw (← (c .before .higher-of .ensures), ← (c .word-of .ensures))
 
 pub grant-event-spec : {M : Type 1} → statement M
 grant-event-spec =
-    tie.close
-    (tie.spec
-    mul-higher-of
-    array-read-higher-of
-    higher-of-requires
-    mul-raised
-    element-write-raised
-    word-of-requires
-    returns)
+    tie.close (tie.spec mul-higher-of array-read-higher-of higher-of-requires mul-raised element-write-raised
+    word-of-requires returns)

@@ -6,14 +6,16 @@ use mathlib.Core.Bool.{true}
 use borrow.Author.Needs.{needs}
 use Rattle.messages.specs.Answers.{said}
 use Rattle.recorder_rules.specs.Recorder.{due, openLeases, leases, tickEvent}
-use Rattle.recorder.proofs.Leases.{placed-push}
+use Rattle.recorder_leases.proofs.Leases.{placed-push}
 use Rattle.recorder.proofs.tick_event.Statement.{statement}
 use Rattle.recorder.proofs.tick_event.Tie as tie
 
 less-requires : tie.Need-less-requires
 less-requires c κs = search needs
 
-is-due : (c : tie.Then1) → due (c .before .before .before .before .args .s) (c .before .before .before .before .args .rec) (c .before .before .before .before .args .reading) ≡ true
+is-due : (c : tie.Then1)
+    → due (c .before .before .before .before .args .s) (c .before .before .before .before .args .rec)
+    (c .before .before .before .before .args .reading) ≡ true
 is-due c = rw (← (c .before .before .less .ensures)) (c .if1 .taken)
 
 place : (c : tie.Then1) → openLeases (c .before .before .before .before .args .rec) < 64
@@ -54,14 +56,5 @@ returns-2 c =
 
 pub tick-event-spec : {M : Type 1} → statement M
 tick-event-spec =
-    tie.close
-    (tie.spec
-    less-requires
-    add-asked
-    add-asked-2
-    mul-asked
-    element-write-asked
-    add-t12
-    word-of-requires
-    returns
-    returns-2)
+    tie.close (tie.spec less-requires add-asked add-asked-2 mul-asked element-write-asked add-t12 word-of-requires
+    returns returns-2)

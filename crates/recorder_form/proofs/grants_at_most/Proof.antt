@@ -1,5 +1,5 @@
--- `recorder_form::grants_at_most` meets its contract. The loop's invariant: no grant is above the counter exactly if none of those
--- passed was and none to come is. Assumes nothing.
+-- `recorder_form::grants_at_most` meets its contract. The loop's invariant: no grant is above the counter exactly if none of
+-- those passed was and none to come is. Assumes nothing.
 use Prim.Native.Nat.{_≤_, _-_}
 use native.Mathlib.Omega.{arith}
 use mathlib.Core.Path.{_≡_, refl}
@@ -35,15 +35,18 @@ loop-less c = omega arith
 
 loop-again : tie.Need-loop-again Inv-loop μ-loop
 loop-again c =
-    let l = c .before in
-    (omega arith, every-more (λ grant. grant ≤? l .before .args .counter) (l .before .args .t1) (l .loop .i) 0 (l .loop .ok) (omega arith) (l .loop .inv .1))
+    let l = c .before in (
+      omega arith,
+      every-more (λ grant. grant ≤? l .before .args .counter) (l .before .args .t1) (l .loop .i) 0 (l .loop .ok)
+          (omega arith) (l .loop .inv .1),
+    )
 
 returns : tie.Need-returns Inv-loop μ-loop
 returns c =
     let l = c .before in
-    every-done (λ grant. grant ≤? l .before .args .counter) (l .before .args .t1) (l .loop .i) (l .loop .ok) (omega arith) (l .loop .inv .1)
+    every-done (λ grant. grant ≤? l .before .args .counter) (l .before .args .t1) (l .loop .i) (l .loop .ok) (omega arith)
+    (l .loop .inv .1)
 
 pub grants-at-most-spec : {M : Type 1} → statement M
 grants-at-most-spec =
-    tie.close
-    (tie.spec Inv-loop μ-loop loop-holds mul-ok array-read-ok add-i loop-less loop-again returns)
+    tie.close (tie.spec Inv-loop μ-loop loop-holds mul-ok array-read-ok add-i loop-less loop-again returns)

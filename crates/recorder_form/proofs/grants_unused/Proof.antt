@@ -1,5 +1,5 @@
--- `recorder_form::grants_unused` meets its contract. The loop's invariant: all places are 0 exactly if those passed were and those to
--- come are. Assumes nothing.
+-- `recorder_form::grants_unused` meets its contract. The loop's invariant: all places are 0 exactly if those passed were and
+-- those to come are. Assumes nothing.
 use Prim.Native.Nat.{_-_}
 use native.Mathlib.Omega.{arith}
 use mathlib.Core.Path.{_≡_, refl}
@@ -44,5 +44,4 @@ returns c =
 
 pub grants-unused-spec : {M : Type 1} → statement M
 grants-unused-spec =
-    tie.close
-    (tie.spec Inv-loop μ-loop loop-holds mul-ok array-read-ok add-i loop-less loop-again returns)
+    tie.close (tie.spec Inv-loop μ-loop loop-holds mul-ok array-read-ok add-i loop-less loop-again returns)

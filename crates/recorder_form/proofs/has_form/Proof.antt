@@ -27,13 +27,25 @@ grants-at-most-requires : tie.Need-grants-at-most-requires
 grants-at-most-requires c κs = search needs
 
 sends-apart-requires : tie.Need-sends-apart-requires
-sends-apart-requires c κs = few (c .before .before .before .before .before .before .before .before .before .before .before .before .before .before .before)
+sends-apart-requires c κs =
+    let earlier =
+    c .before .before .before .before .before .before .before .before .before .before .before .before .before .before
+    .before in
+    few earlier
 
 mul-result : tie.Need-mul-result
-mul-result c = omega (arith, c .before .before .before .before .before .before .before .before .before .before .before .before .before .before .less .ensures, few (c .before .before .before .before .before .before .before .before .before .before .before .before .before .before .before .before .before))
+mul-result c =
+    let at-less =
+    c .before .before .before .before .before .before .before .before .before .before .before .before .before .before in
+    let earlier = at-less .before .before .before in
+    omega (arith, at-less .less .ensures, few earlier)
 
 array-read-result : tie.Need-array-read-result
-array-read-result c = omega (arith, c .before .before .before .before .before .before .before .before .before .before .before .before .before .before .less .ensures, few (c .before .before .before .before .before .before .before .before .before .before .before .before .before .before .before .before .before))
+array-read-result c =
+    let at-less =
+    c .before .before .before .before .before .before .before .before .before .before .before .before .before .before in
+    let earlier = at-less .before .before .before in
+    omega (arith, at-less .less .ensures, few earlier)
 
 less-requires-2 : tie.Need-less-requires-2
 less-requires-2 c κs = search needs
@@ -56,24 +68,15 @@ returns-2 c =
       e .less .ensures,
       d .before .before .sends-unused .ensures,
       d .before .grants-unused .ensures,
-      d .grants-at-most .ensures,
+      d .grants-at-most
+          .ensures,
       b .sends-apart .ensures,
       a .less2 .ensures,
       c .sends-young .ensures,
-    ) (sym (as-coded (start .args .s) (start .args .rec) (few (e .before .before .before))))
+    )
+    (sym (as-coded (start .args .s) (start .args .rec) (few (e .before .before .before))))
 
 pub has-form-spec : {M : Type 1} → statement M
 has-form-spec =
-    tie.close
-    (tie.spec
-    returns
-    less-requires
-    sends-unused-requires
-    grants-unused-requires
-    grants-at-most-requires
-    sends-apart-requires
-    mul-result
-    array-read-result
-    less-requires-2
-    sends-young-requires
-    returns-2)
+    tie.close (tie.spec returns less-requires sends-unused-requires grants-unused-requires grants-at-most-requires
+    sends-apart-requires mul-result array-read-result less-requires-2 sends-young-requires returns-2)

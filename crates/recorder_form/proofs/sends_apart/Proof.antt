@@ -56,7 +56,11 @@ loop-again c =
     let all = take (a .count) (a .t1) in
     let size = length-take (a .count) (a .t1) in (
       omega arith,
-      rw (c .less .ensures, ← (getD-take (a .count) (a .t1) (l .loop .i) 0 (omega arith)), ← (getD-take (a .count) (a .t1) (l .loop .i + 1) 0 (omega arith)))
+      rw (
+        c .less .ensures,
+        ← (getD-take (a .count) (a .t1) (l .loop .i) 0 (omega arith)),
+        ← (getD-take (a .count) (a .t1) (l .loop .i + 1) 0 (omega arith)),
+      )
           (spaced-more (a .interval) all (l .loop .i) (l .loop .ok) (omega arith) (l .loop .inv .1)),
     )
 
@@ -69,19 +73,5 @@ returns c =
 
 pub sends-apart-spec : {M : Type 1} → statement M
 sends-apart-spec =
-    tie.close
-    (tie.spec
-    Inv-loop
-    μ-loop
-    loop-holds
-    add-loop
-    add-less
-    mul-less
-    array-read-less
-    mul-less-2
-    array-read-less-2
-    less-requires
-    add-i
-    loop-less
-    loop-again
-    returns)
+    tie.close (tie.spec Inv-loop μ-loop loop-holds add-loop add-less mul-less array-read-less mul-less-2
+    array-read-less-2 less-requires add-i loop-less loop-again returns)

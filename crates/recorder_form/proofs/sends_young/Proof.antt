@@ -15,7 +15,8 @@ use Rattle.recorder_form.proofs.sends_young.Tie as tie
 
 abbrev Inv-loop : tie.InvT-loop
 Inv-loop count lease reading sends ok₀ i₀ ok i =
-    (i ≤ count) × (every (λ send. reading - send <? lease) (take count sends) ≡ (ok && every (λ send. reading - send <? lease) (drop i (take count sends))))
+    (i ≤ count) × (every (λ send. reading - send <? lease) (take count sends)
+    ≡ (ok && every (λ send. reading - send <? lease) (drop i (take count sends))))
 
 abbrev μ-loop : tie.MeasureT-loop
 μ-loop count lease reading sends ok₀ i₀ ok i = count - i
@@ -45,7 +46,8 @@ loop-again c =
     let size = length-take (a .count) (a .t1) in (
       omega arith,
       rw (c .less .ensures, ← (getD-take (a .count) (a .t1) (l .loop .i) 0 (omega arith)))
-          (every-more (λ send. a .reading - send <? a .lease) (take (a .count) (a .t1)) (l .loop .i) 0 (l .loop .ok) (omega arith) (l .loop .inv .1)),
+          (every-more (λ send. a .reading - send <? a .lease) (take (a .count) (a .t1)) (l .loop .i) 0 (l .loop .ok) (omega arith)
+          (l .loop .inv .1)),
     )
 
 returns : tie.Need-returns Inv-loop μ-loop
@@ -53,19 +55,10 @@ returns c =
     let l = c .before in
     let a = l .before .args in
     let size = length-take (a .count) (a .t1) in
-    every-done (λ send. a .reading - send <? a .lease) (take (a .count) (a .t1)) (l .loop .i) (l .loop .ok) (omega arith) (l .loop .inv .1)
+    every-done (λ send. a .reading - send <? a .lease) (take (a .count) (a .t1)) (l .loop .i) (l .loop .ok) (omega arith)
+    (l .loop .inv .1)
 
 pub sends-young-spec : {M : Type 1} → statement M
 sends-young-spec =
-    tie.close
-    (tie.spec
-    Inv-loop
-    μ-loop
-    loop-holds
-    mul-less
-    array-read-less
-    less-requires
-    add-i
-    loop-less
-    loop-again
+    tie.close (tie.spec Inv-loop μ-loop loop-holds mul-less array-read-less less-requires add-i loop-less loop-again
     returns)

@@ -20,7 +20,8 @@ fresh-observer-requires : tie.Need-fresh-observer-requires
 fresh-observer-requires c κs = search needs
 
 returns-2 : tie.Need-returns-2
-returns-2 c = c .fresh-observer .ensures ∙ sym (getD-eq-default (c .before .before .args .t1) fresh (omega (arith, c .before .if1 .left)))
+returns-2 c =
+    c .fresh-observer .ensures ∙ sym (getD-eq-default (c .before .before .args .t1) fresh (omega (arith, c .before .if1 .left)))
 
 pub observer-at-spec : {M : Type 1} → statement M
 observer-at-spec = tie.close (tie.spec mul-result array-copy-out-result returns fresh-observer-requires returns-2)

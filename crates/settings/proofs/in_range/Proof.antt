@@ -41,8 +41,11 @@ loop-less c = omega arith
 loop-again : tie.Need-loop-again Inv-loop μ-loop
 unfolding ranges
 loop-again c =
-    let l = c .before .before .before .before in
-    (omega arith, each-more ranges (values (l .before .args .s)) (l .loop .i) (l .loop .ok) (omega arith) (omega arith) (l .loop .inv .1))
+    let l = c .before .before .before .before in (
+      omega arith,
+      each-more ranges (values (l .before .args .s)) (l .loop .i) (l .loop .ok) (omega arith) (omega arith)
+          (l .loop .inv .1),
+    )
 
 returns : tie.Need-returns Inv-loop μ-loop
 unfolding inRange ranges
@@ -52,16 +55,5 @@ returns c =
 
 pub in-range-spec : {M : Type 1} → statement M
 in-range-spec =
-    tie.close
-    (tie.spec
-    Inv-loop
-    μ-loop
-    loop-holds
-    mul-row
-    array-copy-out-row
-    mul-x
-    array-read-x
-    add-i
-    loop-less
-    loop-again
-    returns)
+    tie.close (tie.spec Inv-loop μ-loop loop-holds mul-row array-copy-out-row mul-x array-read-x add-i loop-less
+    loop-again returns)

@@ -47,12 +47,5 @@ returns-2 c =
 
 pub judge-spec : {M : Type 1} → statement M
 judge-spec =
-    tie.close
-    (tie.spec
-    refusal-requires
-    returns
-    round-window-requires
-    slack-a-requires
-    slack-b-requires
-    slack-c-requires
-    returns-2)
+    tie.close (tie.spec refusal-requires returns round-window-requires slack-a-requires slack-b-requires
+    slack-c-requires returns-2)

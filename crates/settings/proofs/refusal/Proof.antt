@@ -40,39 +40,37 @@ is-negative-requires-3 c κs = search needs
 
 -- the three tests are those of the slacks
 some-negative : (c : tie.After-is-negative3)
-    → (c .before .before .before .before .is-negative .result || c .before .before .is-negative2 .result || c .is-negative3 .result)
-    ≡ (let s = c .before .before .before .before .before .before .before .before .args .s in negative (slackA s) || negative (slackB s) || negative (slackC s))
+    → let start = c .before .before .before .before .before .before .before .before in
+    (c .before .before .before .before .is-negative .result || c .before .before .is-negative2 .result || c .is-negative3
+    .result) ≡ (let s = start .args .s in negative (slackA s) || negative (slackB s) || negative (slackC s))
 some-negative c =
-    let a = c .before .before .before .before .before .slack-a in
+    let at-slack-a = c .before .before .before .before .before in
+    let a = at-slack-a .slack-a in
     let b = c .before .before .before .slack-b in
     rw (
       c .before .before .before .before .is-negative .ensures,
       c .before .before .is-negative2 .ensures,
-      c .is-negative3 .ensures,
+      c .is-negative3
+          .ensures,
       read-back _ _ (a .ok) (a .ensures),
       read-back _ _ (b .ok) (b .ensures),
-      read-back _ _ (c .before .slack-c .ok) (c .before .slack-c .ensures),
+      read-back _ _ (c .before .slack-c .ok)
+          (c .before .slack-c .ensures),
     )
 
 returns-2 : tie.Need-returns-2
 unfolding refusalOf first
-returns-2 c = rw (fine (c .before .before .before .before .before .before .before), ← (some-negative (c .before)), c .if2 .taken)
+returns-2 c =
+    let earlier = c .before .before .before .before .before .before .before in
+    rw (fine earlier, ← (some-negative (c .before)), c .if2 .taken)
 
 returns-3 : tie.Need-returns-3
 unfolding refusalOf first
-returns-3 c = rw (fine (c .before .before .before .before .before .before .before), ← (some-negative (c .before)), c .if2 .left)
+returns-3 c =
+    let earlier = c .before .before .before .before .before .before .before in
+    rw (fine earlier, ← (some-negative (c .before)), c .if2 .left)
 
 pub refusal-spec : {M : Type 1} → statement M
 refusal-spec =
-    tie.close
-    (tie.spec
-    in-range-requires
-    returns
-    slack-a-requires
-    is-negative-requires
-    slack-b-requires
-    is-negative-requires-2
-    slack-c-requires
-    is-negative-requires-3
-    returns-2
-    returns-3)
+    tie.close (tie.spec in-range-requires returns slack-a-requires is-negative-requires slack-b-requires
+    is-negative-requires-2 slack-c-requires is-negative-requires-3 returns-2 returns-3)

@@ -7,6 +7,9 @@ use borrow.Author.Needs.{needs}
 use Rattle.settings.proofs.round_window.Statement.{statement}
 use Rattle.settings.proofs.round_window.Tie as tie
 
+rounding-of-requires : tie.Need-rounding-of-requires
+rounding-of-requires c κs = search needs
+
 less-requires : tie.Need-less-requires
 less-requires c κs = search needs
 
@@ -19,9 +22,6 @@ less-requires-3 c κs = search needs
 less-requires-4 : tie.Need-less-requires-4
 less-requires-4 c κs = search needs
 
-less-requires-5 : tie.Need-less-requires-5
-less-requires-5 c κs = search needs
-
 -- one rounding after the other is taken away, or all three at once
 thrice : (x r : ℕ) → x - r - r - r ≡ x - 3 * r
 thrice x r = omega arith
@@ -30,20 +30,13 @@ returns : tie.Need-returns
 unfolding window
 returns c =
     rw (
-      c .less5 .ensures,
-      c .before .less4 .ensures,
-      c .before .before .less3 .ensures,
-      c .before .before .before .less2 .ensures,
-      c .before .before .before .before .less .ensures,
+      c .less4 .ensures,
+      c .before .less3 .ensures,
+      c .before .before .less2 .ensures,
+      c .before .before .before .less .ensures,
+      c .before .before .before .before .rounding-of .ensures,
     ) (thrice _ _)
 
 pub round-window-spec : {M : Type 1} → statement M
 round-window-spec =
-    tie.close
-    (tie.spec
-    less-requires
-    less-requires-2
-    less-requires-3
-    less-requires-4
-    less-requires-5
-    returns)
+    tie.close (tie.spec rounding-of-requires less-requires less-requires-2 less-requires-3 less-requires-4 returns)

@@ -9,8 +9,8 @@ use Rattle.settings.proofs.slack_a.Tie as tie
 add-difference : tie.Need-add-difference
 add-difference c = search needs
 
-sub-difference : tie.Need-sub-difference
-sub-difference c = search needs
+rounding-of-requires : tie.Need-rounding-of-requires
+rounding-of-requires c κs = search needs
 
 mul-difference : tie.Need-mul-difference
 mul-difference c = search needs
@@ -25,16 +25,11 @@ difference-requires : tie.Need-difference-requires
 difference-requires c κs = search needs
 
 returns : tie.Need-returns
-returns c = read-back _ _ (c .difference .ok) (c .difference .ensures ∙ sym (slackA-difference (c .before .before .before .args .s)))
+returns c =
+    read-back _ _ (c .difference .ok)
+    (c .difference .ensures ∙ rw (c .before .rounding-of .ensures) (sym (slackA-difference (c .before .before .before .args .s))))
 
 pub slack-a-spec : {M : Type 1} → statement M
 slack-a-spec =
-    tie.close
-    (tie.spec
-    add-difference
-    sub-difference
-    mul-difference
-    add-difference-2
-    add-difference-3
-    difference-requires
-    returns)
+    tie.close (tie.spec add-difference rounding-of-requires mul-difference add-difference-2 add-difference-3
+    difference-requires returns)

@@ -42,11 +42,4 @@ returns-2 c = rw (← (c .before .in-range .ensures), c .if1 .left)
 
 pub slacks-of-spec : {M : Type 1} → statement M
 slacks-of-spec =
-    tie.close
-    (tie.spec
-    in-range-requires
-    slack-a-requires
-    slack-b-requires
-    slack-c-requires
-    returns
-    returns-2)
+    tie.close (tie.spec in-range-requires slack-a-requires slack-b-requires slack-c-requires returns returns-2)

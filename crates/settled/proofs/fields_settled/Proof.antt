@@ -1,4 +1,4 @@
--- The claims on `fields`: each contract gives its outcome outright. Assumes nothing.
+-- The claims on `fields` and `decimals`: each contract gives its outcome outright. Assumes nothing.
 use mathlib.Core.Path.{refl, sym, ap, _∙_}
 use Rattle.settled.proofs.fields_settled.Statement.{statement}
 use Rattle.settled.proofs.fields_settled.Tie as tie

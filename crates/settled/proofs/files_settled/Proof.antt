@@ -1,7 +1,6 @@
 -- The claims on step files: each contract gives its outcome outright, or by what the answer says. Assumes nothing.
 use mathlib.Core.Path.{refl, sym, ap, _∙_}
 use Rattle.line_room.proofs.Written.{written-apart}
-use Rattle.settled.proofs.Apart.{recorder-apart, observer-apart, standby-apart}
 use Rattle.stepfile.proofs.Answers.{answered-apart}
 use Rattle.settled.proofs.files_settled.Statement.{statement}
 use Rattle.settled.proofs.files_settled.Tie as tie
@@ -11,13 +10,11 @@ returns c = record {
   «read_settings_line» = λ _ _ _ _ _ _ p q. (p ∙ sym q, refl);
   «read_step_line» = λ _ _ _ _ _ _ p q. (p ∙ sym q, refl);
   «write_answer» = λ _ _ _ _ _ _ p q. (written-apart (p .0 ∙ sym (q .0)), ap (λ out. (tt, (out, tt))) (p .1 ∙ sym (q .1)));
-  «write_settings_answer» = λ _ _ _ _ _ _ p q. (written-apart (p .0 ∙ sym (q .0)), ap (λ out. (tt, (out, tt))) (p .1 ∙ sym (q .1)));
+  «write_settings_answer» =
+      λ _ _ _ _ _ _ p q. (written-apart (p .0 ∙ sym (q .0)), ap (λ out. (tt, (out, tt))) (p .1 ∙ sym (q .1)));
   start = λ _ _ _ _ _ _ p q. (p ∙ sym q, refl);
   «observer_at» = λ _ _ _ _ _ _ p q. (p ∙ sym q, refl);
   «with_observer» = λ _ _ _ _ _ _ p q. (p ∙ sym q, refl);
-  «recorder_step» = λ _ _ _ _ _ _ p q. (recorder-apart (p ∙ sym q), refl);
-  «observer_step» = λ _ _ _ _ _ _ p q. (observer-apart (p ∙ sym q), refl);
-  «standby_step» = λ _ _ _ _ _ _ p q. (standby-apart (p ∙ sym q), refl);
   «answer_file» = λ _ _ _ _ _ _ p q. (answered-apart (p .0 ∙ sym (q .0)), ap (λ out. (tt, (out, tt))) (p .1 ∙ sym (q .1)));
 }
 

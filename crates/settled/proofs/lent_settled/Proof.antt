@@ -1,4 +1,5 @@
--- The claims on `observer_lent`: each contract gives its outcome by what the answer says, and the record outright. Assumes nothing.
+-- The claims on `observer_lent`: each contract gives its outcome by what the answer says, and the record outright. Assumes
+-- nothing.
 use mathlib.Core.Path.{_≡_, refl, sym, ap, _∙_}
 use Rattle.messages.specs.declared.Answer.{Answer}
 use Rattle.messages.specs.Answers.{said}
@@ -14,12 +15,8 @@ both e = (said-apart (ap (λ (o : Outcome Observer). o .answer) e), ap (λ (o : 
 
 returns : tie.Need-returns
 returns c = record {
-  «request_lent» = λ _ _ _ _ _ _ _ _ _ p q. both (p ∙ sym q);
-  «cut_lent» = λ _ _ _ _ _ _ _ _ _ _ p q. both (p ∙ sym q);
-  «check_lent» = λ _ _ _ _ _ _ _ _ _ p q. both (p ∙ sym q);
-  «lend_to_request» = λ _ _ _ _ _ _ p q. (observer-apart (p ∙ sym q), refl);
-  «lend_to_cut» = λ _ _ _ _ _ _ p q. (observer-apart (p ∙ sym q), refl);
-  «lend_to_check» = λ _ _ _ _ _ _ p q. (observer-apart (p ∙ sym q), refl);
+  «step_lent» = λ _ _ _ _ _ _ _ _ _ p q. both (p ∙ sym q);
+  «lend_to_step» = λ _ _ _ _ _ _ p q. (observer-apart (p ∙ sym q), refl);
 }
 
 pub lent-settled-spec : {M : Type 1} → statement M

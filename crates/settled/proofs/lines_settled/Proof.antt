@@ -1,4 +1,5 @@
--- The claims on `line_room` and `lines`: each contract gives its outcome by what the answer says, and the room outright. Assumes nothing.
+-- The claims on `line_room` and `lines`: each contract gives its outcome by what the answer says, and the room outright.
+-- Assumes nothing.
 use mathlib.Core.Path.{refl, sym, ap, _∙_}
 use Rattle.line_room.proofs.Written.{written-apart}
 use Rattle.lines.proofs.Answers.{read-apart}
@@ -11,7 +12,8 @@ returns c = record {
   «write_line» = λ _ _ _ _ _ _ p q. (written-apart (p .0 ∙ sym (q .0)), ap (λ out. (tt, (out, tt))) (p .1 ∙ sym (q .1)));
   «write_word» = λ _ _ _ _ _ _ p q. (written-apart (p .0 ∙ sym (q .0)), ap (λ out. (tt, (out, tt))) (p .1 ∙ sym (q .1)));
   «write_one» = λ _ _ _ _ _ _ p q. (written-apart (p .0 ∙ sym (q .0)), ap (λ out. (tt, (tt, (out, tt)))) (p .1 ∙ sym (q .1)));
-  «write_two» = λ _ _ _ _ _ _ p q. (written-apart (p .0 ∙ sym (q .0)), ap (λ out. (tt, (tt, (tt, (tt, (out, tt)))))) (p .1 ∙ sym (q .1)));
+  «write_two» =
+      λ _ _ _ _ _ _ p q. (written-apart (p .0 ∙ sym (q .0)), ap (λ out. (tt, (tt, (tt, (tt, (out, tt)))))) (p .1 ∙ sym (q .1)));
 }
 
 pub lines-settled-spec : {M : Type 1} → statement M

@@ -1,7 +1,7 @@
 -- `standby::after_keeping` meets its contract. Assumes nothing.
 use mathlib.Core.Path.{_≡_, _∙_}
-use Rattle.settings.specs.Quorums.{closes}
-use Rattle.messages.specs.Answers.{said}
+use Rattle.quorums.specs.Quorums.{closes}
+use Rattle.messages.specs.Answers.{said, wordsOf}
 use Rattle.standby_rules.specs.Standby.{keptMarks, afterKeeping}
 use borrow.Author.Needs.{needs}
 use Rattle.standby.proofs.after_keeping.Statement.{statement}
@@ -30,16 +30,10 @@ returns c =
     rw (← (quorum q), c .before .before .if1 .taken, c .before .judge .ensures, c .closed-round .ensures)
 
 returns-2 : tie.Need-returns-2
-unfolding afterKeeping said
+unfolding afterKeeping said wordsOf
 returns-2 c = rw (← (quorum (c .before)), c .if1 .left)
 
 pub after-keeping-spec : {M : Type 1} → statement M
 after-keeping-spec =
-    tie.close
-    (tie.spec
-    kept-marks-requires
-    contains-query-quorum-requires
-    judge-requires
-    closed-round-requires
-    returns
+    tie.close (tie.spec kept-marks-requires contains-query-quorum-requires judge-requires closed-round-requires returns
     returns-2)

@@ -21,7 +21,8 @@ returns c =
     let s = c .before .before .args .s in
     let q = c .before .before .args .q in
     let r = c .before .before .args .reading in
-    first-stays (refusals s ++ (3 when not (hasForm s q) ∷ [])) (4 when badReading (lastReading q) r ∷ []) refl (c .before .unfit .ensures) (c .if1 .taken)
+    first-stays (refusals s ++ (3 when not (hasForm s q) ∷ [])) (4 when badReading (lastReading q) r ∷ []) refl
+    (c .before .unfit .ensures) (c .if1 .taken)
 
 goes : (c : tie.Else1)
     → let a = c .before .before .args in
@@ -31,15 +32,19 @@ goes c =
     let s = c .before .before .args .s in
     let q = c .before .before .args .q in
     let r = c .before .before .args .reading in
-    first-goes-on (refusals s ++ (3 when not (hasForm s q) ∷ [])) (4 when badReading (lastReading q) r ∷ []) refl (c .before .unfit .ensures) (c .if1 .left)
+    first-goes-on (refusals s ++ (3 when not (hasForm s q) ∷ [])) (4 when badReading (lastReading q) r ∷ []) refl
+    (c .before .unfit .ensures) (c .if1 .left)
+
+bad-reading-requires : tie.Need-bad-reading-requires
+bad-reading-requires c κs = search needs
 
 returns-2 : tie.Need-returns-2
 unfolding first
-returns-2 c = sym (goes (c .before .before) ∙ rw (c .if2 .taken))
+returns-2 c = sym (goes (c .before .before) ∙ rw (← (c .before .bad-reading .ensures), c .if2 .taken))
 
 returns-3 : tie.Need-returns-3
 unfolding first
-returns-3 c = sym (goes (c .before .before) ∙ rw (c .if2 .left))
+returns-3 c = sym (goes (c .before .before) ∙ rw (← (c .before .bad-reading .ensures), c .if2 .left))
 
 pub begin-refusal-spec : {M : Type 1} → statement M
-begin-refusal-spec = tie.close (tie.spec unfit-requires returns returns-2 returns-3)
+begin-refusal-spec = tie.close (tie.spec unfit-requires returns bad-reading-requires returns-2 returns-3)

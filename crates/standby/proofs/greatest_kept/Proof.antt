@@ -37,10 +37,8 @@ loop-again c =
     let places = l .before .args .t1 in
     let more = greatest-more places (l .loop .i) (l .loop .m) (omega arith) in (
       omega arith,
-      ⊎-elim
-          (λ w. l .loop .inv .1 ∙ rw (w .0 .taken) at more ∙ rw (w .1))
-          (λ w. l .loop .inv .1 ∙ rw (w .0 .left) at more ∙ rw (w .1))
-          (c .if1 .came),
+      ⊎-elim (λ w. l .loop .inv .1 ∙ rw (w .0 .taken) at more ∙ rw (w .1))
+          (λ w. l .loop .inv .1 ∙ rw (w .0 .left) at more ∙ rw (w .1)) (c .if1 .came),
     )
 
 returns : tie.Need-returns Inv-loop μ-loop
@@ -50,14 +48,4 @@ returns c =
 
 pub greatest-kept-spec : {M : Type 1} → statement M
 greatest-kept-spec =
-    tie.close
-    (tie.spec
-    Inv-loop
-    μ-loop
-    loop-holds
-    mul-place
-    array-copy-out-place
-    add-i
-    loop-less
-    loop-again
-    returns)
+    tie.close (tie.spec Inv-loop μ-loop loop-holds mul-place array-copy-out-place add-i loop-less loop-again returns)

@@ -1,6 +1,6 @@
 -- `standby::late` meets its contract. Assumes nothing.
 use borrow.Author.Needs.{needs}
-use Rattle.messages.specs.Answers.{said}
+use Rattle.messages.specs.Answers.{said, wordsOf}
 use Rattle.standby.proofs.late.Statement.{statement}
 use Rattle.standby.proofs.late.Tie as tie
 
@@ -8,7 +8,7 @@ closed-round-requires : tie.Need-closed-round-requires
 closed-round-requires c κs = search needs
 
 returns : tie.Need-returns
-unfolding said
+unfolding said wordsOf
 returns c = rw (c .closed-round .ensures)
 
 pub late-spec : {M : Type 1} → statement M

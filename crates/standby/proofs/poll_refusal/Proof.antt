@@ -17,7 +17,8 @@ returns : tie.Need-returns
 unfolding every
 returns c =
     let a = c .before .before .args in
-    first-stays (beginRefusals (a .s) (a .q) (a .reading)) (7 when not (isOpen (a .q)) ∷ []) refl (c .before .begin-refusal .ensures) (c .if1 .taken)
+    first-stays (beginRefusals (a .s) (a .q) (a .reading)) (7 when not (isOpen (a .q)) ∷ []) refl
+    (c .before .begin-refusal .ensures) (c .if1 .taken)
 
 goes : (c : tie.Else1)
     → let a = c .before .before .args in
@@ -25,7 +26,8 @@ goes : (c : tie.Else1)
 unfolding every
 goes c =
     let a = c .before .before .args in
-    first-goes-on (beginRefusals (a .s) (a .q) (a .reading)) (7 when not (isOpen (a .q)) ∷ []) refl (c .before .begin-refusal .ensures) (c .if1 .left)
+    first-goes-on (beginRefusals (a .s) (a .q) (a .reading)) (7 when not (isOpen (a .q)) ∷ []) refl
+    (c .before .begin-refusal .ensures) (c .if1 .left)
 
 returns-2 : tie.Need-returns-2
 unfolding first
@@ -36,5 +38,4 @@ unfolding first
 returns-3 c = sym (goes (c .before) ∙ rw (c .if2 .left))
 
 pub poll-refusal-spec : {M : Type 1} → statement M
-poll-refusal-spec =
-    tie.close (tie.spec begin-refusal-requires returns returns-2 returns-3)
+poll-refusal-spec = tie.close (tie.spec begin-refusal-requires returns returns-2 returns-3)

@@ -38,8 +38,11 @@ loop-less c = omega arith
 loop-again : tie.Need-loop-again Inv-loop μ-loop
 loop-again c =
     let l = c .before .before .before .before .before in
-    let m = l .before .args .m in
-    (omega arith, rw (c .before .before .is-dead .ensures) (some-more (saysDead m) (l .before .args .t1) (l .loop .i) unused (l .loop .found) (omega arith) (l .loop .inv .1)))
+    let m = l .before .args .m in (
+      omega arith,
+      rw (c .before .before .is-dead .ensures)
+          (some-more (saysDead m) (l .before .args .t1) (l .loop .i) unused (l .loop .found) (omega arith) (l .loop .inv .1)),
+    )
 
 returns : tie.Need-returns Inv-loop μ-loop
 returns c =
@@ -48,15 +51,5 @@ returns c =
 
 pub some-dead-spec : {M : Type 1} → statement M
 some-dead-spec =
-    tie.close
-    (tie.spec
-    Inv-loop
-    μ-loop
-    loop-holds
-    mul-place
-    array-copy-out-place
-    is-dead-requires
-    add-i
-    loop-less
-    loop-again
-    returns)
+    tie.close (tie.spec Inv-loop μ-loop loop-holds mul-place array-copy-out-place is-dead-requires add-i loop-less
+    loop-again returns)

@@ -24,7 +24,9 @@ is-closed-by-requires c κs = search needs
 
 returns : tie.Need-returns
 unfolding ackNumbers
-returns c = rw (← (c .before .before .before .before .before .before .row-of .ensures), ← (c .before .is-closed-by .ensures), c .if1 .taken)
+returns c =
+    let at-row-of = c .before .before .before .before .before .before in
+    rw (← (at-row-of .row-of .ensures), ← (c .before .is-closed-by .ensures), c .if1 .taken)
 
 slice-aggregate-is-closed-by-2 : tie.Need-slice-aggregate-is-closed-by-2
 slice-aggregate-is-closed-by-2 c = search needs
@@ -34,11 +36,32 @@ is-closed-by-requires-2 c κs = search needs
 
 returns-2 : tie.Need-returns-2
 unfolding ackNumbers
-returns-2 c = rw (← (c .before .before .before .before .before .before .before .before .before .row-of .ensures), ← (c .before .before .before .before .is-closed-by .ensures), c .before .before .before .if1 .left, ← (c .before .is-closed-by2 .ensures), c .if2 .taken)
+returns-2 c =
+    let at-row-of = c .before .before .before .before .before .before .before .before .before in
+    rw (
+      ← (at-row-of .row-of .ensures),
+      ← (c .before .before .before .before .is-closed-by .ensures),
+      c .before .before .before
+          .if1 .left,
+      ← (c .before .is-closed-by2 .ensures),
+      c .if2 .taken,
+    )
 
 returns-3 : tie.Need-returns-3
 unfolding ackNumbers
-returns-3 c = rw (← (c .before .before .before .before .before .before .before .before .before .row-of .ensures), ← (c .before .before .before .before .is-closed-by .ensures), c .before .before .before .if1 .left, ← (c .before .is-closed-by2 .ensures), c .if2 .left)
+returns-3 c =
+    let at-row-of = c .before .before .before .before .before .before .before .before .before in
+    rw (
+      ← (at-row-of .row-of .ensures),
+      ← (c .before .before .before .before .is-closed-by .ensures),
+      c .before .before .before
+          .if1 .left,
+      ← (c .before .is-closed-by2 .ensures),
+      c .if2 .left,
+    )
 
 pub ack-numbers-spec : {M : Type 1} → statement M
-ack-numbers-spec = tie.close (tie.spec row-of-requires element-copy-out-x element-copy-out-ts element-copy-out-counter slice-aggregate-is-closed-by is-closed-by-requires returns slice-aggregate-is-closed-by-2 is-closed-by-requires-2 returns-2 returns-3)
+ack-numbers-spec =
+    tie.close (tie.spec row-of-requires element-copy-out-x element-copy-out-ts element-copy-out-counter
+    slice-aggregate-is-closed-by is-closed-by-requires returns slice-aggregate-is-closed-by-2 is-closed-by-requires-2
+    returns-2 returns-3)

@@ -18,11 +18,19 @@ element-copy-out-t13 c = search needs
 
 returns : tie.Need-returns
 unfolding checkNumbers
-returns c = rw (← (c .before .before .before .before .row-of .ensures), ← (c .before .before .is-closed-by .ensures), c .before .if1 .taken)
+returns c =
+    rw (
+      ← (c .before .before .before .before .row-of .ensures),
+      ← (c .before .before .is-closed-by .ensures),
+      c .before .if1
+          .taken,
+    )
 
 returns-2 : tie.Need-returns-2
 unfolding checkNumbers
 returns-2 c = rw (← (c .before .before .before .row-of .ensures), ← (c .before .is-closed-by .ensures), c .if1 .left)
 
 pub check-numbers-spec : {M : Type 1} → statement M
-check-numbers-spec = tie.close (tie.spec row-of-requires slice-aggregate-is-closed-by is-closed-by-requires element-copy-out-t13 returns returns-2)
+check-numbers-spec =
+    tie.close (tie.spec row-of-requires slice-aggregate-is-closed-by is-closed-by-requires element-copy-out-t13 returns
+    returns-2)

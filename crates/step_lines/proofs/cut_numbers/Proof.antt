@@ -18,11 +18,19 @@ element-copy-out-t14 c = search needs
 
 returns : tie.Need-returns
 unfolding cutNumbers
-returns c = rw (← (c .before .before .before .before .row-of .ensures), ← (c .before .before .is-closed-by .ensures), c .before .if1 .taken)
+returns c =
+    rw (
+      ← (c .before .before .before .before .row-of .ensures),
+      ← (c .before .before .is-closed-by .ensures),
+      c .before .if1
+          .taken,
+    )
 
 returns-2 : tie.Need-returns-2
 unfolding cutNumbers
 returns-2 c = rw (← (c .before .before .before .row-of .ensures), ← (c .before .is-closed-by .ensures), c .if1 .left)
 
 pub cut-numbers-spec : {M : Type 1} → statement M
-cut-numbers-spec = tie.close (tie.spec row-of-requires slice-aggregate-is-closed-by is-closed-by-requires element-copy-out-t14 returns returns-2)
+cut-numbers-spec =
+    tie.close (tie.spec row-of-requires slice-aggregate-is-closed-by is-closed-by-requires element-copy-out-t14 returns
+    returns-2)

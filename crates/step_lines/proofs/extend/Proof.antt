@@ -12,12 +12,15 @@ use Rattle.step_lines.proofs.extend.Statement.{statement}
 use Rattle.step_lines.proofs.extend.Tie as tie
 
 -- past the test the row was good and a tab stands behind it
-behind : (c : tie.Then1) → c .before .before .before .before .before .before .args .row .behind
-    < length (now (c .before .before .before .before .before .before .args .s))
+behind : (c : tie.Then1)
+    → let start = c .before .before .before .before .before .before in
+    start .args .row .behind < length (now (start .args .s))
 behind c =
-    let a = c .before .before .before .before .before .before .args in
+    let start = c .before .before .before .before .before .before in
+    let a = start .args in
     let p = both-hold (a .row .good) (c .before .before .starts .result) (c .if1 .taken) in
-    tab-within (now (a .s)) (a .row .behind) (rw (← (c .before .before .before .before .part-from .ensures), ← (c .before .before .starts .ensures)) (p .1))
+    tab-within (now (a .s)) (a .row .behind)
+    (rw (← (c .before .before .before .before .part-from .ensures), ← (c .before .before .starts .ensures)) (p .1))
 
 part-from-requires : tie.Need-part-from-requires
 part-from-requires c κs = search needs
@@ -42,7 +45,8 @@ enum-known-number c = search needs
 
 add-next : tie.Need-add-next
 add-next c =
-    let w = behind (c .before .before .before .before .before .before) in
+    let earlier = c .before .before .before .before .before .before in
+    let w = behind earlier in
     let n = number-within _ _ _ (sym (c .before .before .before .read-number .ensures) ∙ c .before .number .given .1) in
     omega arith
 
@@ -56,7 +60,15 @@ returns : tie.Need-returns
 unfolding extended withNumber
 returns c =
     let t = c .before .before .before .before .before .before in
-    rw (← (t .before .before .before .before .part-from .ensures), ← (t .before .before .starts .ensures), t .if1 .taken, ← (c .before .before .before .before .part-from2 .ensures), ← (c .before .before .before .read-number .ensures), c .before .number .given .1)
+    rw (
+      ← (t .before .before .before .before .part-from .ensures),
+      ← (t .before .before .starts .ensures),
+      t .if1 .taken,
+      ← (c .before .before .before .before .part-from2 .ensures),
+      ← (c .before .before .before .read-number .ensures),
+      c .before
+          .number .given .1,
+    )
 
 enum-told : tie.Need-enum-told
 enum-told c = search needs
@@ -65,7 +77,14 @@ returns-2 : tie.Need-returns-2
 unfolding extended withNumber
 returns-2 c =
     let t = c .before .before .before .before .before in
-    rw (← (t .before .before .before .before .part-from .ensures), ← (t .before .before .starts .ensures), t .if1 .taken, ← (c .before .before .before .part-from2 .ensures), ← (c .before .before .read-number .ensures), c .enum-told .given .1)
+    rw (
+      ← (t .before .before .before .before .part-from .ensures),
+      ← (t .before .before .starts .ensures),
+      t .if1 .taken,
+      ← (c .before .before .before .part-from2 .ensures),
+      ← (c .before .before .read-number .ensures),
+      c .enum-told .given .1,
+    )
 
 returns-3 : tie.Need-returns-3
 unfolding extended
@@ -73,19 +92,5 @@ returns-3 c = rw (← (c .before .before .before .before .part-from .ensures), �
 
 pub extend-spec : {M : Type 1} → statement M
 extend-spec =
-    tie.close
-    (tie.spec
-    part-from-requires
-    slice-aggregate-starts
-    starts-requires
-    add-from
-    part-from-requires-2
-    read-number-requires
-    enum-known-number
-    add-next
-    mul-next
-    element-write-next
-    enum-told
-    returns
-    returns-2
-    returns-3)
+    tie.close (tie.spec part-from-requires slice-aggregate-starts starts-requires add-from part-from-requires-2
+    read-number-requires enum-known-number add-next mul-next element-write-next enum-told returns returns-2 returns-3)

@@ -21,11 +21,15 @@ element-copy-out-t15 c = search needs
 
 returns : tie.Need-returns
 unfolding grantNumbers
-returns c = rw (← (c .before .before .before .before .before .row-of .ensures), ← (c .before .before .before .is-closed-by .ensures), c .before .before .if1 .taken)
+returns c =
+    let at-row-of = c .before .before .before .before .before in
+    rw (← (at-row-of .row-of .ensures), ← (c .before .before .before .is-closed-by .ensures), c .before .before .if1 .taken)
 
 returns-2 : tie.Need-returns-2
 unfolding grantNumbers
 returns-2 c = rw (← (c .before .before .before .row-of .ensures), ← (c .before .is-closed-by .ensures), c .if1 .left)
 
 pub grant-numbers-spec : {M : Type 1} → statement M
-grant-numbers-spec = tie.close (tie.spec row-of-requires slice-aggregate-is-closed-by is-closed-by-requires element-copy-out-t12 element-copy-out-t15 returns returns-2)
+grant-numbers-spec =
+    tie.close (tie.spec row-of-requires slice-aggregate-is-closed-by is-closed-by-requires element-copy-out-t12
+    element-copy-out-t15 returns returns-2)

@@ -18,7 +18,9 @@ request-numbers-requires c κs = search needs
 
 returns : tie.Need-returns
 unfolding observerEvent
-returns c = rw (← (c .before .before .before .starts .ensures), c .before .before .if1 .taken, ← (c .before .part-from .ensures)) (c .request-numbers .ensures)
+returns c =
+    rw (← (c .before .before .before .starts .ensures), c .before .before .if1 .taken, ← (c .before .part-from .ensures))
+    (c .request-numbers .ensures)
 
 slice-aggregate-starts-2 : tie.Need-slice-aggregate-starts-2
 slice-aggregate-starts-2 c = search needs
@@ -34,11 +36,29 @@ check-numbers-requires c κs = search needs
 
 returns-2 : tie.Need-returns-2
 unfolding observerEvent
-returns-2 c = rw (← (c .before .before .before .before .before .before .starts .ensures), c .before .before .before .before .before .if1 .left, ← (c .before .before .before .starts2 .ensures), c .before .before .if2 .taken, ← (c .before .part-from2 .ensures)) (c .check-numbers .ensures)
+returns-2 c =
+    let at-if1 = c .before .before .before .before .before in
+    let at-starts = at-if1 .before in
+    rw (
+      ← (at-starts .starts .ensures),
+      at-if1 .if1 .left,
+      ← (c .before .before .before .starts2 .ensures),
+      c .before .before
+          .if2 .taken,
+      ← (c .before .part-from2 .ensures),
+    ) (c .check-numbers .ensures)
 
 returns-3 : tie.Need-returns-3
 unfolding observerEvent
-returns-3 c = rw (← (c .before .before .before .before .starts .ensures), c .before .before .before .if1 .left, ← (c .before .starts2 .ensures), c .if2 .left)
+returns-3 c =
+    rw (
+      ← (c .before .before .before .before .starts .ensures),
+      c .before .before .before .if1 .left,
+      ← (c .before .starts2 .ensures),
+      c .if2 .left,
+    )
 
 pub observer-event-spec : {M : Type 1} → statement M
-observer-event-spec = tie.close (tie.spec slice-aggregate-starts starts-requires part-from-requires request-numbers-requires returns slice-aggregate-starts-2 starts-requires-2 part-from-requires-2 check-numbers-requires returns-2 returns-3)
+observer-event-spec =
+    tie.close (tie.spec slice-aggregate-starts starts-requires part-from-requires request-numbers-requires returns
+    slice-aggregate-starts-2 starts-requires-2 part-from-requires-2 check-numbers-requires returns-2 returns-3)

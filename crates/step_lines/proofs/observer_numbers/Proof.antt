@@ -21,11 +21,16 @@ observer-event-requires c κs = search needs
 
 returns : tie.Need-returns
 unfolding observerNumbers
-returns c = rw (← (c .before .before .before .before .before .row-of .ensures), c .before .before .before .before .if1 .taken, ← (c .before .part-from .ensures)) (c .observer-event .ensures)
+returns c =
+    let at-row-of = c .before .before .before .before .before in
+    rw (← (at-row-of .row-of .ensures), c .before .before .before .before .if1 .taken, ← (c .before .part-from .ensures))
+    (c .observer-event .ensures)
 
 returns-2 : tie.Need-returns-2
 unfolding observerNumbers
 returns-2 c = rw (← (c .before .row-of .ensures), c .if1 .left)
 
 pub observer-numbers-spec : {M : Type 1} → statement M
-observer-numbers-spec = tie.close (tie.spec row-of-requires element-copy-out-observer-event element-copy-out-observer-event-2 part-from-requires observer-event-requires returns returns-2)
+observer-numbers-spec =
+    tie.close (tie.spec row-of-requires element-copy-out-observer-event element-copy-out-observer-event-2
+    part-from-requires observer-event-requires returns returns-2)

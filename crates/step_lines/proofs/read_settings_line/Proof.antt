@@ -18,11 +18,15 @@ settings-numbers-requires c κs = search needs
 
 returns : tie.Need-returns
 unfolding settingsLine
-returns c = rw (← (c .before .before .before .starts .ensures), c .before .before .if1 .taken, ← (c .before .part-from .ensures)) (c .settings-numbers .ensures)
+returns c =
+    rw (← (c .before .before .before .starts .ensures), c .before .before .if1 .taken, ← (c .before .part-from .ensures))
+    (c .settings-numbers .ensures)
 
 returns-2 : tie.Need-returns-2
 unfolding settingsLine
 returns-2 c = rw (← (c .before .starts .ensures), c .if1 .left)
 
 pub read-settings-line-spec : {M : Type 1} → statement M
-read-settings-line-spec = tie.close (tie.spec slice-aggregate-starts starts-requires part-from-requires settings-numbers-requires returns returns-2)
+read-settings-line-spec =
+    tie.close (tie.spec slice-aggregate-starts starts-requires part-from-requires settings-numbers-requires returns
+    returns-2)

@@ -18,11 +18,18 @@ recorder-event-requires c κs = search needs
 
 returns : tie.Need-returns
 unfolding recorderNumbers
-returns c = rw (← (c .before .before .before .before .row-of .ensures), c .before .before .before .if1 .taken, ← (c .before .part-from .ensures)) (c .recorder-event .ensures)
+returns c =
+    rw (
+      ← (c .before .before .before .before .row-of .ensures),
+      c .before .before .before .if1 .taken,
+      ← (c .before .part-from .ensures),
+    ) (c .recorder-event .ensures)
 
 returns-2 : tie.Need-returns-2
 unfolding recorderNumbers
 returns-2 c = rw (← (c .before .row-of .ensures), c .if1 .left)
 
 pub recorder-numbers-spec : {M : Type 1} → statement M
-recorder-numbers-spec = tie.close (tie.spec row-of-requires element-copy-out-recorder-event part-from-requires recorder-event-requires returns returns-2)
+recorder-numbers-spec =
+    tie.close (tie.spec row-of-requires element-copy-out-recorder-event part-from-requires recorder-event-requires
+    returns returns-2)

@@ -28,11 +28,29 @@ cut-numbers-requires c κs = search needs
 
 returns-2 : tie.Need-returns-2
 unfolding requestEnd
-returns-2 c = rw (← (c .before .before .before .before .before .before .is-exactly .ensures), c .before .before .before .before .before .if1 .left, ← (c .before .before .before .starts .ensures), c .before .before .if2 .taken, ← (c .before .part-from .ensures)) (c .cut-numbers .ensures)
+returns-2 c =
+    let at-if1 = c .before .before .before .before .before in
+    let at-is-exactly = at-if1 .before in
+    rw (
+      ← (at-is-exactly .is-exactly .ensures),
+      at-if1 .if1 .left,
+      ← (c .before .before .before .starts .ensures),
+      c .before
+          .before .if2 .taken,
+      ← (c .before .part-from .ensures),
+    ) (c .cut-numbers .ensures)
 
 returns-3 : tie.Need-returns-3
 unfolding requestEnd
-returns-3 c = rw (← (c .before .before .before .before .is-exactly .ensures), c .before .before .before .if1 .left, ← (c .before .starts .ensures), c .if2 .left)
+returns-3 c =
+    rw (
+      ← (c .before .before .before .before .is-exactly .ensures),
+      c .before .before .before .if1 .left,
+      ← (c .before .starts .ensures),
+      c .if2 .left,
+    )
 
 pub request-end-spec : {M : Type 1} → statement M
-request-end-spec = tie.close (tie.spec slice-aggregate-is-exactly is-exactly-requires returns slice-aggregate-starts starts-requires part-from-requires cut-numbers-requires returns-2 returns-3)
+request-end-spec =
+    tie.close (tie.spec slice-aggregate-is-exactly is-exactly-requires returns slice-aggregate-starts starts-requires
+    part-from-requires cut-numbers-requires returns-2 returns-3)

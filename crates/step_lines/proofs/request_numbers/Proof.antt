@@ -18,11 +18,18 @@ request-end-requires c κs = search needs
 
 returns : tie.Need-returns
 unfolding requestNumbers
-returns c = rw (← (c .before .before .before .before .row-of .ensures), c .before .before .before .if1 .taken, ← (c .before .part-from .ensures)) (c .request-end .ensures)
+returns c =
+    rw (
+      ← (c .before .before .before .before .row-of .ensures),
+      c .before .before .before .if1 .taken,
+      ← (c .before .part-from .ensures),
+    ) (c .request-end .ensures)
 
 returns-2 : tie.Need-returns-2
 unfolding requestNumbers
 returns-2 c = rw (← (c .before .row-of .ensures), c .if1 .left)
 
 pub request-numbers-spec : {M : Type 1} → statement M
-request-numbers-spec = tie.close (tie.spec row-of-requires element-copy-out-request-end part-from-requires request-end-requires returns returns-2)
+request-numbers-spec =
+    tie.close (tie.spec row-of-requires element-copy-out-request-end part-from-requires request-end-requires returns
+    returns-2)

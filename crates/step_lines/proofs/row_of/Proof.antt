@@ -38,6 +38,4 @@ returns c =
     l .inv .1 ∙ ap (row (now (c .before .before .before .args .s))) (le-antisymm (l .inv .0) (omega arith))
 
 pub row-of-spec : {M : Type 1} → statement M
-row-of-spec =
-    tie.close
-    (tie.spec Inv-loop μ-loop loop-holds extend-requires add-k loop-less loop-again returns)
+row-of-spec = tie.close (tie.spec Inv-loop μ-loop loop-holds extend-requires add-k loop-less loop-again returns)

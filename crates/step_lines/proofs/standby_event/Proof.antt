@@ -22,7 +22,13 @@ is-exactly-requires-2 c κs = search needs
 
 returns-2 : tie.Need-returns-2
 unfolding standbyEvent
-returns-2 c = rw (← (c .before .before .before .before .is-exactly .ensures), c .before .before .before .if1 .left, ← (c .before .is-exactly2 .ensures), c .if2 .taken)
+returns-2 c =
+    rw (
+      ← (c .before .before .before .before .is-exactly .ensures),
+      c .before .before .before .if1 .left,
+      ← (c .before .is-exactly2 .ensures),
+      c .if2 .taken,
+    )
 
 slice-aggregate-starts : tie.Need-slice-aggregate-starts
 slice-aggregate-starts c = search needs
@@ -38,11 +44,38 @@ ack-numbers-requires c κs = search needs
 
 returns-3 : tie.Need-returns-3
 unfolding standbyEvent
-returns-3 c = rw (← (c .before .before .before .before .before .before .before .before .before .is-exactly .ensures), c .before .before .before .before .before .before .before .before .if1 .left, ← (c .before .before .before .before .before .before .is-exactly2 .ensures), c .before .before .before .before .before .if2 .left, ← (c .before .before .before .starts .ensures), c .before .before .if3 .taken, ← (c .before .part-from .ensures)) (c .ack-numbers .ensures)
+returns-3 c =
+    let at-if2 = c .before .before .before .before .before in
+    let at-is-exactly2 = at-if2 .before in
+    let at-if1 = at-is-exactly2 .before .before in
+    let at-is-exactly = at-if1 .before in
+    rw (
+      ← (at-is-exactly .is-exactly .ensures),
+      at-if1 .if1 .left,
+      ← (at-is-exactly2 .is-exactly2 .ensures),
+      at-if2 .if2 .left,
+      ← (c .before .before .before .starts .ensures),
+      c .before .before .if3 .taken,
+      ← (c .before .part-from .ensures),
+    )
+    (c .ack-numbers .ensures)
 
 returns-4 : tie.Need-returns-4
 unfolding standbyEvent
-returns-4 c = rw (← (c .before .before .before .before .before .before .before .is-exactly .ensures), c .before .before .before .before .before .before .if1 .left, ← (c .before .before .before .before .is-exactly2 .ensures), c .before .before .before .if2 .left, ← (c .before .starts .ensures), c .if3 .left)
+returns-4 c =
+    let at-if1 = c .before .before .before .before .before .before in
+    let at-is-exactly = at-if1 .before in
+    rw (
+      ← (at-is-exactly .is-exactly .ensures),
+      at-if1 .if1 .left,
+      ← (c .before .before .before .before .is-exactly2 .ensures),
+      c .before .before .before .if2 .left,
+      ← (c .before .starts .ensures),
+      c .if3 .left,
+    )
 
 pub standby-event-spec : {M : Type 1} → statement M
-standby-event-spec = tie.close (tie.spec slice-aggregate-is-exactly is-exactly-requires returns slice-aggregate-is-exactly-2 is-exactly-requires-2 returns-2 slice-aggregate-starts starts-requires part-from-requires ack-numbers-requires returns-3 returns-4)
+standby-event-spec =
+    tie.close (tie.spec slice-aggregate-is-exactly is-exactly-requires returns slice-aggregate-is-exactly-2
+    is-exactly-requires-2 returns-2 slice-aggregate-starts starts-requires part-from-requires ack-numbers-requires
+    returns-3 returns-4)

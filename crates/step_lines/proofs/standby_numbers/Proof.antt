@@ -18,11 +18,18 @@ standby-event-requires c κs = search needs
 
 returns : tie.Need-returns
 unfolding standbyNumbers
-returns c = rw (← (c .before .before .before .before .row-of .ensures), c .before .before .before .if1 .taken, ← (c .before .part-from .ensures)) (c .standby-event .ensures)
+returns c =
+    rw (
+      ← (c .before .before .before .before .row-of .ensures),
+      c .before .before .before .if1 .taken,
+      ← (c .before .part-from .ensures),
+    ) (c .standby-event .ensures)
 
 returns-2 : tie.Need-returns-2
 unfolding standbyNumbers
 returns-2 c = rw (← (c .before .row-of .ensures), c .if1 .left)
 
 pub standby-numbers-spec : {M : Type 1} → statement M
-standby-numbers-spec = tie.close (tie.spec row-of-requires element-copy-out-standby-event part-from-requires standby-event-requires returns returns-2)
+standby-numbers-spec =
+    tie.close (tie.spec row-of-requires element-copy-out-standby-event part-from-requires standby-event-requires returns
+    returns-2)

@@ -7,7 +7,7 @@ use denote.Ref.{now}
 use mathlib.Core.List.{List}
 use lib.ListN.{length, drop, drop-of-length-le}
 use borrow.Author.Tests.{eq-eqb, ne-eqb}
-use Rattle.stepfile_rules.specs.Lines.{lineLength}
+use Rattle.stepfile_rules.specs.Parts.{lineLength}
 use Rattle.stepfile_rules.proofs.Lines.{line-end, line-next}
 use Rattle.stepfile.proofs.line_length.Statement.{statement}
 use Rattle.stepfile.proofs.line_length.Tie as tie
@@ -32,7 +32,13 @@ add-result : tie.Need-add-result Inv-loop μ-loop
 add-result c = omega arith
 
 returns : tie.Need-returns Inv-loop μ-loop
-returns c = omega (arith, c .before .before .before .loop .inv .1, line-end (now (c .before .before .before .before .args .s)) (c .before .before .before .loop .i) (omega arith) (eq-eqb _ _ (c .if1 .taken)))
+returns c =
+    omega (
+      arith,
+      c .before .before .before .loop .inv .1,
+      line-end (now (c .before .before .before .before .args .s))
+          (c .before .before .before .loop .i) (omega arith) (eq-eqb _ _ (c .if1 .taken)),
+    )
 
 add-i : tie.Need-add-i Inv-loop μ-loop
 add-i c = omega arith
@@ -41,11 +47,23 @@ loop-less : tie.Need-loop-less Inv-loop μ-loop
 loop-less c = omega arith
 
 loop-again : tie.Need-loop-again Inv-loop μ-loop
-loop-again c = (omega arith, omega (arith, c .before .before .before .loop .inv .1, line-next (now (c .before .before .before .before .args .s)) (c .before .before .before .loop .i) (omega arith) (ne-eqb _ _ (c .if1 .left))))
+loop-again c = (
+  omega arith,
+  omega (
+    arith,
+    c .before .before .before .loop .inv .1,
+    line-next
+        (now (c .before .before .before .before .args .s)) (c .before .before .before .loop .i) (omega arith)
+        (ne-eqb _ _ (c .if1 .left)),
+  ),
+)
 
 returns-2 : tie.Need-returns-2 Inv-loop μ-loop
 unfolding lineLength
-returns-2 c = omega (arith, c .before .loop .inv .1, rest-none (now (c .before .before .args .s)) (c .before .loop .i) (omega arith))
+returns-2 c =
+    omega (arith, c .before .loop .inv .1, rest-none (now (c .before .before .args .s)) (c .before .loop .i) (omega arith))
 
 pub line-length-spec : {M : Type 1} → statement M
-line-length-spec = tie.close (tie.spec Inv-loop μ-loop loop-holds shared-slice-read-if1 add-result returns add-i loop-less loop-again returns-2)
+line-length-spec =
+    tie.close (tie.spec Inv-loop μ-loop loop-holds shared-slice-read-if1 add-result returns add-i loop-less loop-again
+    returns-2)

@@ -15,7 +15,10 @@ slice-reshare-prefix-write-all : tie.Need-slice-reshare-prefix-write-all
 slice-reshare-prefix-write-all c = search needs
 
 slice-aggregate-write-all : tie.Need-slice-aggregate-write-all
-slice-aggregate-write-all c = sym (length-take-le (c .before .before .before .answered .given .0 .0) (c .before .before .before .before .before .before .before .answer-file .last .1 .0) (c .before .if1 .taken))
+slice-aggregate-write-all c =
+    let at-answer-file = c .before .before .before .before .before .before .before in
+    sym (length-take-le (c .before .before .before .answered .given .0 .0) (at-answer-file .answer-file .last .1 .0)
+    (c .before .if1 .taken))
 
 write-all-requires : tie.Need-write-all-requires
 write-all-requires c κs = search needs
@@ -42,4 +45,7 @@ returns : tie.Need-returns
 returns c = search needs
 
 pub answer-spec : {M : Type 1} → statement M
-answer-spec = tie.close (tie.spec answer-file-requires enum-known-answered slice-reshare-prefix-write-all slice-aggregate-write-all write-all-requires enum-told slice-aggregate-write-all-2 write-all-requires-2 slice-aggregate-write-all-3 write-all-requires-3 same-length returns)
+answer-spec =
+    tie.close (tie.spec answer-file-requires enum-known-answered slice-reshare-prefix-write-all
+    slice-aggregate-write-all write-all-requires enum-told slice-aggregate-write-all-2 write-all-requires-2
+    slice-aggregate-write-all-3 write-all-requires-3 same-length returns)

@@ -31,7 +31,12 @@ file-length-requires : tie.Need-file-length-requires Inv-loop μ-loop
 file-length-requires c κs = search needs
 
 slice-aggregate-answer : tie.Need-slice-aggregate-answer Inv-loop μ-loop
-slice-aggregate-answer c = let input = now (c .before .before .before .before .before .before .before .args .input) in sym (length-take-le (c .before .file-length .result) (take (length input - c .before .before .before .before .loop .at) (drop (c .before .before .before .before .loop .at) input)) (c .before .file-length .ensures))
+slice-aggregate-answer c =
+    let start = c .before .before .before .before .before .before .before in
+    let input = now (start .args .input) in
+    sym (length-take-le (c .before .file-length .result)
+    (take (length input - c .before .before .before .before .loop .at)
+    (drop (c .before .before .before .before .loop .at) input)) (c .before .file-length .ensures))
 
 answer-requires : tie.Need-answer-requires Inv-loop μ-loop
 answer-requires c κs = search needs
@@ -43,7 +48,9 @@ add-at-2 : tie.Need-add-at-2 Inv-loop μ-loop
 add-at-2 c = search needs
 
 loop-less : tie.Need-loop-less Inv-loop μ-loop
-loop-less c = omega (arith, c .before .before .before .before .before .before .before .loop-test .taken)
+loop-less c =
+    let at-loop-test = c .before .before .before .before .before .before .before in
+    omega (arith, at-loop-test .loop-test .taken)
 
 loop-again : tie.Need-loop-again Inv-loop μ-loop
 loop-again c = search needs
@@ -55,4 +62,6 @@ returns : tie.Need-returns Inv-loop μ-loop
 returns c = search needs
 
 pub answer-each-spec : {M : Type 1} → statement M
-answer-each-spec = tie.close (tie.spec Inv-loop μ-loop loop-holds sub-rest part-rest-start part-rest-end file-length-requires slice-aggregate-answer answer-requires add-at add-at-2 loop-less loop-again same-length returns)
+answer-each-spec =
+    tie.close (tie.spec Inv-loop μ-loop loop-holds sub-rest part-rest-start part-rest-end file-length-requires
+    slice-aggregate-answer answer-requires add-at add-at-2 loop-less loop-again same-length returns)

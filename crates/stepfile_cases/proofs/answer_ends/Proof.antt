@@ -28,7 +28,9 @@ array-share-prefix-long-2 : tie.Need-array-share-prefix-long-2
 array-share-prefix-long-2 c = search needs
 
 slice-aggregate-answer-3 : tie.Need-slice-aggregate-answer-3
-slice-aggregate-answer-3 c = let long = c .before .before .before .before .before .before .before .before .before .before .before in sym (length-take-le 1 (long .too-long .result) (omega (arith, long .too-long .ensures)))
+slice-aggregate-answer-3 c =
+    let long = c .before .before .before .before .before .before .before .before .before .before .before in
+    sym (length-take-le 1 (long .too-long .result) (omega (arith, long .too-long .ensures)))
 
 slice-aggregate-answer-4 : tie.Need-slice-aggregate-answer-4
 slice-aggregate-answer-4 c = search needs
@@ -44,17 +46,6 @@ returns c = search needs
 
 pub answer-ends-spec : {M : Type 1} → statement M
 answer-ends-spec =
-    tie.close
-    (tie.spec
-    too-long-requires
-    array-share-prefix-long
-    slice-aggregate-answer
-    answer-requires
-    slice-aggregate-answer-2
-    answer-requires-2
-    array-share-prefix-long-2
-    slice-aggregate-answer-3
-    slice-aggregate-answer-4
-    answer-requires-3
-    same-length
-    returns)
+    tie.close (tie.spec too-long-requires array-share-prefix-long slice-aggregate-answer answer-requires
+    slice-aggregate-answer-2 answer-requires-2 array-share-prefix-long-2 slice-aggregate-answer-3
+    slice-aggregate-answer-4 answer-requires-3 same-length returns)

@@ -27,7 +27,10 @@ array-share-prefix-room : tie.Need-array-share-prefix-room
 array-share-prefix-room c = rw (c .before .input .given .1) at (c .before .before .before .before .read-input .ensures)
 
 slice-aggregate-run : tie.Need-slice-aggregate-run
-slice-aggregate-run c = sym (length-take-le (c .before .before .input .given .0 .0) _ (rw (c .before .before .input .given .1) at (c .before .before .before .before .before .read-input .ensures)))
+slice-aggregate-run c =
+    let at-read-input = c .before .before .before .before .before in
+    sym (length-take-le (c .before .before .input .given .0 .0) _
+    (rw (c .before .before .input .given .1) at (at-read-input .read-input .ensures)))
 
 slice-aggregate-run-2 : tie.Need-slice-aggregate-run-2
 slice-aggregate-run-2 c = search needs
@@ -46,18 +49,6 @@ returns-2 c = search needs
 
 pub main-spec : {M : Type 1} → statement M
 main-spec =
-    tie.close
-    (tie.spec
-    large-buffer-requires
-    answer-room-requires
-    slice-aggregate-read-input
-    slice-aggregate-read-input-2
-    read-input-requires
-    enum-known-input
-    array-share-prefix-room
-    slice-aggregate-run
-    slice-aggregate-run-2
-    run-requires
-    enum-told
-    returns
-    returns-2)
+    tie.close (tie.spec large-buffer-requires answer-room-requires slice-aggregate-read-input
+    slice-aggregate-read-input-2 read-input-requires enum-known-input array-share-prefix-room slice-aggregate-run
+    slice-aggregate-run-2 run-requires enum-told returns returns-2)

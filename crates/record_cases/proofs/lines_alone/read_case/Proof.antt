@@ -55,20 +55,6 @@ returns c = search needs
 
 pub read-case-spec : {M : Type 1} → statement M
 read-case-spec =
-    tie.close
-    (tie.spec
-    Inv-loop
-    μ-loop
-    case-length-requires
-    loop-holds
-    add-unfolded
-    shared-slice-read-unfolded
-    unfolded-requires
-    array-write-bytes
-    add-i
-    loop-less
-    loop-again
-    array-share-prefix-bytes
-    slice-aggregate-read-line
-    read-line-requires
-    returns)
+    tie.close (tie.spec Inv-loop μ-loop case-length-requires loop-holds add-unfolded shared-slice-read-unfolded
+    unfolded-requires array-write-bytes add-i loop-less loop-again array-share-prefix-bytes slice-aggregate-read-line
+    read-line-requires returns)

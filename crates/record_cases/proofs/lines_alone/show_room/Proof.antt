@@ -57,21 +57,6 @@ returns c = search needs
 
 pub show-room-spec : {M : Type 1} → statement M
 show-room-spec =
-    tie.close
-    (tie.spec
-    Inv-loop
-    μ-loop
-    loop-holds
-    element-copy-out-shown
-    shown-requires
-    array-write-seen
-    add-i
-    loop-less
-    loop-again
-    slice-aggregate-text
-    text-requires
-    slice-aggregate-text-2
-    text-requires-2
-    slice-aggregate-text-3
-    text-requires-3
-    returns)
+    tie.close (tie.spec Inv-loop μ-loop loop-holds element-copy-out-shown shown-requires array-write-seen add-i
+    loop-less loop-again slice-aggregate-text text-requires slice-aggregate-text-2 text-requires-2
+    slice-aggregate-text-3 text-requires-3 returns)

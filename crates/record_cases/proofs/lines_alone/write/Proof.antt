@@ -34,14 +34,5 @@ returns-2 c = search needs
 
 pub write-spec : {M : Type 1} → statement M
 write-spec =
-    tie.close
-    (tie.spec
-    array-read-room
-    message-of-requires
-    array-borrow-prefix-space
-    slice-aggregate-write-line
-    write-line-requires
-    show-length-requires
-    show-room-requires
-    returns
-    returns-2)
+    tie.close (tie.spec array-read-room message-of-requires array-borrow-prefix-space slice-aggregate-write-line
+    write-line-requires show-length-requires show-room-requires returns returns-2)

@@ -39,15 +39,5 @@ returns c = search needs
 
 pub numbers-spec : {M : Type 1} → statement M
 numbers-spec =
-    tie.close
-    (tie.spec
-    Inv-loop
-    μ-loop
-    loop-holds
-    number-at-requires
-    mul-found
-    array-write-found
-    add-k
-    loop-less
-    loop-again
-    returns)
+    tie.close (tie.spec Inv-loop μ-loop loop-holds number-at-requires mul-found array-write-found add-k loop-less
+    loop-again returns)

@@ -23,5 +23,4 @@ returns-2 : tie.Need-returns-2
 returns-2 c = search needs
 
 pub distance-spec : {M : Type 1} → statement M
-distance-spec =
-    tie.close (tie.spec sub-result cast-result add-result cast-result-2 returns returns-2)
+distance-spec = tie.close (tie.spec sub-result cast-result add-result cast-result-2 returns returns-2)

@@ -46,18 +46,5 @@ returns-4 c = search needs
 
 pub line-spec : {M : Type 1} → statement M
 line-spec =
-    tie.close
-    (tie.spec
-    enum-known-written
-    slice-aggregate-text
-    text-requires
-    enum-told
-    slice-aggregate-text-2
-    text-requires-2
-    enum-told-2
-    slice-aggregate-text-3
-    text-requires-3
-    returns
-    returns-2
-    returns-3
-    returns-4)
+    tie.close (tie.spec enum-known-written slice-aggregate-text text-requires enum-told slice-aggregate-text-2
+    text-requires-2 enum-told-2 slice-aggregate-text-3 text-requires-3 returns returns-2 returns-3 returns-4)

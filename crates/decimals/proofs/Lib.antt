@@ -1,0 +1,3 @@
+-- Laws of digits and of reading, for the crates above.
+pub mod Digits
+pub mod Reading

@@ -1,0 +1,2 @@
+-- Rule 6.1: decimals.
+pub mod Decimals

@@ -1,0 +1,2 @@
+-- Laws of the quorum tests, for the crates above.
+pub mod Quorums

@@ -1,0 +1,2 @@
+-- Rule 1.9: quorums.
+pub mod Quorums

@@ -1,0 +1,2 @@
+-- Laws of the open leases.
+pub mod Leases
