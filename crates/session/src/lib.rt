@@ -1,4 +1,4 @@
-// A rack between two lines of a step file: the settings and every party's record. Serves rules 7.3 and 7.4. What a line's step
+// A rack between two lines of a step file: the settings and every party's record. Serves rules 7.5 and 7.9. What a line's step
 // does to them stands in specs/; the steps are the parties' own.
 use messages::Status;
 use observer_rules::Observer;
