@@ -1,4 +1,6 @@
 // The lines that answer a step file. Serves rules 7.6 and 7.7.
+#![tactic(auto)]
+
 ghost use Rattle.std.specs.Prelude.{◌≡◌, false, pos};
 ghost use Rattle.settings.specs.Settings.{negative};
 ghost use Rattle.messages.specs.Answers.{said, sends, speaks, words_of};

@@ -1,4 +1,6 @@
 // Decimal numbers as bytes: read from the front of a slice, counted, and written into lent room. Serves rule 6.1.
+#![tactic(auto)]
+
 ghost use Rattle.std.specs.Prelude.{◌≡◌, ◌++◌, ◌+◌, ◌*◌, ◌≤◌, length, drop, get_or};
 ghost use Rattle.words.specs.Tests.{◌<?◌};
 ghost use Rattle.fields.specs.Places.{put_at, next_place};
@@ -6,7 +8,7 @@ ghost use Rattle.decimals.specs.Decimals.{is_digit, digits, read_on, number_at};
 
 // What stands where a number should: its value and how many bytes it takes, or the place of the first byte at which
 // no number could go on.
-#[derive(Drop)]
+#[derive(Clone, Copy)]
 pub enum Number {
     Value(u64, usize),
     Bad(usize),

@@ -1,5 +1,7 @@
 // Words and bytes at a place of a slice: the part that begins there, the word at its front, and bytes written into lent room.
 // Serves rule 6.4; the lines of step files and of answers have their words in the same way.
+#![tactic(auto)]
+
 ghost use Rattle.std.specs.Prelude.{◌≡◌, drop};
 ghost use Rattle.fields.specs.Places.{agree, begins, is_exactly, put_at, next_place};
 

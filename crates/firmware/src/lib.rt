@@ -1,5 +1,7 @@
 // The recorder's steps for C firmware, over the 680 bytes of a record, which `record_bytes` reads and writes. Serves rules 8.
 // What a call returns and leaves stands in `firmware_rules`; the header for C is include/recorder.h.
+#![tactic(auto)]
+
 ghost use Rattle.std.specs.Prelude.{◌≡◌, length};
 ghost use Rattle.words.specs.Tests.{if◌then◌else◌, ◌=?◌};
 ghost use Rattle.settings.specs.Settings.{settings_of, refusal_of};

@@ -1,5 +1,7 @@
 // Lines written into lent room: a word, or a word with one number or two behind it. The messages' lines and the lines of
 // answers are made of these. Serves rules 6.4 and 6.6. What is written stands in `lines_rules`.
+#![tactic(auto)]
+
 ghost use Rattle.std.specs.Prelude.{◌≡◌};
 ghost use Rattle.lines_rules.specs.Writing.{fitting, filled, one_number, two_numbers};
 ghost use Rattle.line_room.specs.Written.{said_of_written};
@@ -8,7 +10,7 @@ use decimals::{digit_count, put_number};
 use fields::put_bytes;
 
 // What the writer answers: the line's length; or 9; or 10, the room being too short.
-#[derive(Drop)]
+#[derive(Clone, Copy)]
 pub enum LineWritten {
     Length(usize),
     Bad,

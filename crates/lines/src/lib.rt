@@ -1,5 +1,7 @@
 // Message lines: one line of text for each message, read from any bytes and written into lent room. Serves rules 6. Each field
 // is read from the part of the line that begins where the field begins. What is read and written stands in `lines_rules`.
+#![tactic(auto)]
+
 ghost use Rattle.std.specs.Prelude.{◌≡◌};
 ghost use Rattle.messages.specs.Messages.{has_form};
 ghost use Rattle.messages.specs.declared.Message.TheVariants.{LeaseRequest, LeaseGrant, Check};
@@ -14,7 +16,7 @@ use line_room::{LineWritten, write_one, write_two};
 use messages::{Message, Status};
 
 // What the reader answers: the message, or 9.
-#[derive(Drop)]
+#[derive(Clone, Copy)]
 pub enum LineRead {
     Got(Message),
     Bad,

@@ -1,5 +1,7 @@
 // The rules of message lines. Serves rules 6: specs/Reading.antt and specs/Writing.antt say what is read and
 // written, specs/Claims.antt that the two fit each other and how much room is enough; the code is in `lines`.
+#![tactic(auto)]
+
 ghost use Rattle.lines_rules.specs.Claims.{WrittenIsRead, ReadIsWritten, LongestLineIsEnough, LongestLineIsNeeded};
 
 // A message that is written is read back as itself.

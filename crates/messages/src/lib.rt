@@ -1,4 +1,6 @@
 // The messages that the parties exchange and the answers that their steps give. Serves rules 2 and 6.2.
+#![tactic(auto)]
+
 ghost use Rattle.std.specs.Prelude.{◌≡◌};
 ghost use Rattle.messages.specs.Answers.{said, is_refusal, AnswersToldApart};
 ghost use Rattle.messages.specs.Outcomes.{bad_reading};
@@ -8,13 +10,13 @@ pub const TOP_COUNTER: u64 = 1099511627776;
 
 pub const TOP_READING: u64 = 1099511627775;
 
-#[derive(Drop)]
+#[derive(Clone, Copy)]
 pub enum Status {
     Alive,
     Dead,
 }
 
-#[derive(Drop)]
+#[derive(Clone, Copy)]
 pub enum Message {
     // the counter
     LeaseRequest(u64),
@@ -27,7 +29,7 @@ pub enum Message {
 }
 
 // The words that a step can say.
-#[derive(Drop)]
+#[derive(Clone, Copy)]
 pub enum Word {
     // the recorder's
     Unregistered,
@@ -45,7 +47,7 @@ pub enum Word {
 }
 
 // A step's answer: rules 2.2 and 2.5.
-#[derive(Drop)]
+#[derive(Clone, Copy)]
 pub enum Answer {
     // the number of the refusal
     Refused(u32),

@@ -1,6 +1,8 @@
 // The observer: a small box that grants leases and says what it has seen. Serves rules 4. A step first makes its plan, which
 // is all that the rules ask of it; then it does the plan, store by store. The plan is made here for both forms of the step: the
 // one below takes the record and returns it, the one of `observer_lent` alters it in place.
+#![tactic(auto)]
+
 ghost use Rattle.std.specs.Prelude.{◌≡◌, take};
 ghost use Rattle.words.specs.Said.{first};
 ghost use Rattle.settings.specs.Parts.{InRange};
@@ -15,14 +17,14 @@ use observer_rules::{Observer, ObserverEvent};
 use settings::Settings;
 
 // What a step returns: its answer, and the record after it.
-#[derive(Drop)]
+#[derive(Clone, Copy)]
 pub struct Stepped {
     pub answer: Answer,
     pub rec: Observer,
 }
 
 // What a step is to do. A refusal does nothing of what follows it.
-#[derive(Drop)]
+#[derive(Clone, Copy)]
 pub struct Plan {
     pub answer: Answer,
     pub refused: bool,

@@ -1,6 +1,8 @@
 // The observer's step over a record that is lent: it is altered in place, one field at a time. Serves rules 4.4 to 4.7, with
 // rule 2.2 for a refusal. What is to be done is the plan of `observer`, the same that the step by value does; here every store
 // is a write of its own into the lent record, so that a cut falls between two of them.
+#![tactic(auto)]
+
 ghost use Rattle.std.specs.Prelude.{◌≡◌, take};
 ghost use Rattle.messages.specs.Answers.{said};
 ghost use Rattle.messages.specs.Outcomes.{◌leaving◌};

@@ -1,8 +1,10 @@
 // The observer's record and the rules of its steps. Serves rules 4: specs/Observer.antt says what each step does,
 // specs/Claims.antt what every step keeps; the code is in `observer`.
+#![tactic(auto)]
+
 ghost use Rattle.observer_rules.specs.Claims.{FormIsKept, LatestNeverFalls, DeadlineFirst, GrantIsStored, DeadFromDeadline};
 
-#[derive(Drop)]
+#[derive(Clone, Copy)]
 pub struct Observer {
     // stored: the highest request granted, and until when its lease runs
     pub latest: u64,
@@ -12,7 +14,7 @@ pub struct Observer {
 }
 
 // What an observer is handed: rules 4.5 to 4.7.
-#[derive(Drop)]
+#[derive(Clone, Copy)]
 pub enum ObserverEvent {
     // the counter
     Request(u64),

@@ -1,5 +1,7 @@
 // Sets of observers: whether one contains a survival quorum, or a query quorum; that a set with the one and a set with the other
 // share an observer, and that a set keeps its quorums as it grows. Serves rule 1.9.
+#![tactic(auto)]
+
 ghost use Rattle.std.specs.Prelude.{◌≡◌};
 ghost use Rattle.quorums.specs.Quorums.{members, survives, closes, QuorumsMeet, QuorumsGrow};
 

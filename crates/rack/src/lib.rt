@@ -1,5 +1,7 @@
 // Demand 3 of the customer: dead means dead. Theorems about runs of the very step definitions that the contracts of recorder,
 // observer and standby cite; no code that runs. specs/Claims.antt states them phrase by phrase. `rack_shown` has single runs.
+#![tactic(auto)]
+
 ghost use Rattle.rack.specs.Freedoms.{AnythingMayHappen};
 ghost use Rattle.rack.specs.Found.{FoundDead, SomeRunTellsDead};
 ghost use Rattle.rack.specs.Claims.{RecorderIsNeverRefused, SentMessagesHaveForm, DeadMeansDead, DeadIsDetected, OneExchangeEnds};

@@ -1,5 +1,7 @@
 // Single runs of a rack, shown by computation: those that meet the premises of demand 3, at the margin, and those that refute the
 // shortcuts that look harmless. Theorems; no code that runs.
+#![tactic(auto)]
+
 ghost use Rattle.rack_shown.specs.Shown.{DeadToldAtTheWindow, AliveToldWhileDriving, BoundIsMet, BoundIsTight, JustInTime, PremisesNeeded};
 ghost use Rattle.rack_shown.specs.Freedoms.{EverythingHappens};
 ghost use Rattle.rack_shown.specs.Needed.{TestsAreNeeded, DetectionNeedsThem};

@@ -1,5 +1,7 @@
 // rackrun: a step file on standard input, its answers on standard output. Serves rules 7.10 to 7.12. All of it is the
 // libraries'; here the input is read, to its end or to one byte past the limit, and the answers are written.
+#![tactic(auto)]
+
 ghost use Rattle.std.specs.Prelude.{◌≡◌, length};
 
 use stepfile::{Answered, answer_file};

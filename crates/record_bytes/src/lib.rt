@@ -1,5 +1,7 @@
 // A recorder's record and its 680 bytes, 85 words of 8 bytes, the low byte first: read from a buffer and written into it.
 // Serves rules 8.1. Which bytes are which record stands in `firmware_rules`.
+#![tactic(auto)]
+
 ghost use Rattle.std.specs.Prelude.{◌≡◌, ◌+◌, ◌≤◌, ◌<◌, length, take, drop};
 ghost use Rattle.fields.specs.Places.{put_at};
 ghost use Rattle.firmware_rules.specs.Bytes.{record_bytes, word_of, bytes_in, words_at, bytes_of, decoded, encoded};

@@ -15,6 +15,8 @@
 //      a lent record
 //   w  room, message (0 to 3 in the order of rule 6.2), its numbers, 1 for Dead: writes its line into so much room
 //   <  a message line, `$` for its line feed: gives the message, or the refusal
+#![tactic(auto)]
+
 mod act;
 mod lines_alone;
 mod rack;

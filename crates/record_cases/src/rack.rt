@@ -8,7 +8,7 @@ use recorder_rules::Recorder;
 use settings::{MOST_LEASES, MOST_OBSERVERS, Settings, settings_of};
 use standby_rules::{Place, Standby};
 
-#[derive(Drop)]
+#[derive(Clone, Copy)]
 pub struct Rack {
     pub settings: Settings,
     pub recorder: Recorder,
@@ -17,7 +17,7 @@ pub struct Rack {
 }
 
 // A number of the line, and the place behind its tab; 0 where none stands.
-#[derive(Drop)]
+#[derive(Clone, Copy)]
 struct Taken {
     value: u64,
     behind: usize,

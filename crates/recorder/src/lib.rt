@@ -1,6 +1,8 @@
 // The recorder: the party that drives while its leases hold. Serves rules 3. What a step is to do, and what every step keeps,
 // stands in `recorder_rules`; whether a record has its form is `recorder_form`'s to say, and what every accepted step does with
 // the open leases is `recorder_leases`'s to do.
+#![tactic(auto)]
+
 ghost use Rattle.std.specs.Prelude.{◌≡◌, ◌<◌};
 ghost use Rattle.settings.specs.Settings.{most_observers};
 ghost use Rattle.words.specs.Said.{first};
@@ -16,7 +18,7 @@ use recorder_rules::{Recorder, RecorderEvent};
 use settings::{Settings, less};
 
 // A step's answer, and the record that it leaves.
-#[derive(Drop)]
+#[derive(Clone, Copy)]
 pub struct Stepped {
     pub answer: Answer,
     pub rec: Recorder,

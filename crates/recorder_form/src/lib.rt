@@ -1,4 +1,6 @@
 // The form of a recorder's record: what a step tests of it before it looks at anything else. Serves rules 3.2.
+#![tactic(auto)]
+
 ghost use Rattle.std.specs.Prelude.{◌≡◌, ◌-◌, ◌≤◌, take, drop};
 ghost use Rattle.settings.specs.Settings.{most_leases};
 ghost use Rattle.words.specs.Tests.{◌<?◌, ◌≤?◌};

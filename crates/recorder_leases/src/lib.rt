@@ -1,5 +1,7 @@
 // The open leases: what every accepted step does with them before its event. Serves rules 3.4 to 3.7, and has the quorum of
 // grants that 3.11 asks for too. Nothing is required of the record: what is ensured holds of any.
+#![tactic(auto)]
+
 ghost use Rattle.std.specs.Prelude.{◌≡◌, map, ◌+◌, ◌-◌, ◌<◌, min};
 ghost use Rattle.words.specs.Tests.{◌<?◌};
 ghost use Rattle.settings.specs.Settings.{most_leases};
@@ -13,7 +15,7 @@ use recorder_rules::Recorder;
 use settings::{MOST_LEASES, MOST_OBSERVERS, Settings, less};
 
 // The open leases at a reading: does one that has ended lack grants, and which have not ended.
-#[derive(Drop)]
+#[derive(Clone, Copy)]
 struct Sifted {
     lacking: bool,
     count: u64,
@@ -21,7 +23,7 @@ struct Sifted {
 }
 
 // The record at a step's event, or that of a recorder that has stopped.
-#[derive(Drop)]
+#[derive(Clone, Copy)]
 pub struct Advanced {
     pub goes_on: bool,
     pub rec: Recorder,

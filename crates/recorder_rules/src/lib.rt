@@ -1,5 +1,7 @@
 // The recorder's record and the rules of its steps. Serves rules 3: specs/Recorder.antt says what each step does,
 // specs/Claims.antt what every step keeps; the code is in `recorder`.
+#![tactic(auto)]
+
 ghost use Rattle.std.specs.Prelude.{◌≡◌};
 ghost use Rattle.recorder_rules.specs.Recorder.{fresh};
 ghost use Rattle.recorder_rules.specs.Claims.{FormIsKept, StoppedStays, GrantsNeverFall, PlacesSuffice, NewestAreKept, EndedWereRenewed};
@@ -7,7 +9,7 @@ ghost use Rattle.recorder_rules.specs.Claims.{FormIsKept, StoppedStays, GrantsNe
 use settings::{MOST_LEASES, MOST_OBSERVERS};
 
 // The record of rule 3.1, in its order: 85 numbers.
-#[derive(Drop)]
+#[derive(Clone, Copy)]
 pub struct Recorder {
     // 0, or 1 once the recorder has stopped for good
     pub stopped: u64,
@@ -23,7 +25,7 @@ pub struct Recorder {
 }
 
 // What a recorder is handed: rules 3.8 to 3.10.
-#[derive(Drop)]
+#[derive(Clone, Copy)]
 pub enum RecorderEvent {
     Tick,
     // the observer, and the number that it grants

@@ -1,5 +1,7 @@
 // A rack between two lines of a step file: the settings and every party's record. Serves rules 7.5 and 7.9. What a line's step
 // does to them stands in specs/; the steps are the parties' own.
+#![tactic(auto)]
+
 ghost use Rattle.std.specs.Prelude.{◌≡◌, set};
 ghost use Rattle.observer_rules.specs.Observer.{fresh as freshObserver};
 ghost use Rattle.session.specs.Session.{started, observer_at};
@@ -10,7 +12,7 @@ use recorder_rules::{Recorder, fresh_recorder};
 use settings::{MOST_OBSERVERS, Settings};
 use standby_rules::{Place, Standby};
 
-#[derive(Drop)]
+#[derive(Clone, Copy)]
 pub struct Session {
     pub settings: Settings,
     pub recorder: Recorder,

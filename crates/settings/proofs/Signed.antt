@@ -35,7 +35,7 @@ plain x h = rw (lt-ltb x (2 ^ 63) h)
 
 -- an integer in range is what its bits say
 pub read_back : (r z : ℤ) → mag r < 2 ^ 63 → r ≡ z → to_z w64 (of_z w64 r) ≡ z
-read_back r z fits e = to_z-of_z (record { sfits = fits }) ∙ e
+read_back r z fits e = to_z-of_z {w = w64} (record { sfits = fits }) ∙ e
 
 module _ (x y : ℕ) (small_x : x < 2 ^ 62) (small_y : y < 2 ^ 62) where
   bits : to_z w64 x -ℤ to_z w64 y ≡ pos x -ℤ pos y

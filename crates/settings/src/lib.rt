@@ -1,10 +1,12 @@
 // The seven settings: their ranges, the three slacks, the round window W, and the refusals 1 and 2. Serves rules 1.1 to 1.8.
+#![tactic(auto)]
+
 ghost use Rattle.std.specs.Prelude.{◌≡◌, ◌<◌, ◌^◌, ◌-◌, pos, ◌-ℤ◌};
 ghost use Rattle.settings.specs.Settings.{settings_of, rounding, in_range, slack_a, slack_b, slack_c, window, refusal_of, negative};
 ghost use Rattle.settings.specs.Parts.{InRange};
 ghost use Rattle.settings.specs.Answers.{said_of, judged, said_of_slacks, slacks_of};
 
-#[derive(Drop)]
+#[derive(Clone, Copy)]
 pub struct Settings {
     // n
     pub observers: u64,
@@ -22,7 +24,7 @@ pub struct Settings {
     pub grain: u64,
 }
 
-#[derive(Drop)]
+#[derive(Clone, Copy)]
 pub struct Range {
     pub least: u64,
     pub greatest: u64,
@@ -66,14 +68,14 @@ const RANGES: [Range; 7] = [
 ];
 
 // The settings' own answer.
-#[derive(Drop)]
+#[derive(Clone, Copy)]
 pub enum Judged {
     Accepted { window: u64, a: i64, b: i64, c: i64 },
     Refused(u32),
 }
 
 // The slacks of settings in range, refused or not.
-#[derive(Drop)]
+#[derive(Clone, Copy)]
 pub enum Slacks {
     Of { a: i64, b: i64, c: i64 },
     Refused(u32),

@@ -1,6 +1,8 @@
 // Determinacy of each public function of the crates below: any two outcomes that its contract allows at the same arguments
 // are equal, the result and what was lent as it ends. Each claim is a theorem: a function with an empty body that ensures it.
 // Left out are the functions of that same kind in the crates below: they return nothing and are lent nothing.
+#![tactic(auto)]
+
 ghost use Rattle.settled.specs.OfSettings.{SettingsSettled};
 ghost use Rattle.settled.specs.OfFields.{FieldsSettled};
 ghost use Rattle.settled.specs.OfLines.{LinesSettled};

@@ -1,5 +1,7 @@
 // The standby: it asks the observers whether the recorder is dead. Serves rules 5. What a step is to do, and what every step
 // keeps, stands in `standby_rules`; whether a record has its form is `standby_form`'s to say.
+#![tactic(auto)]
+
 ghost use Rattle.std.specs.Prelude.{◌≡◌, not, [], ◌∷◌, ◌++◌, ◌<◌};
 ghost use Rattle.words.specs.Lists.{some};
 ghost use Rattle.words.specs.Said.{first, ◌when◌};
@@ -16,7 +18,7 @@ use standby_form::{has_form, is_dead, kept_marks};
 use standby_rules::{Place, Standby, StandbyEvent};
 
 // What a step answers, and the record it leaves.
-#[derive(Drop)]
+#[derive(Clone, Copy)]
 pub struct Stepped {
     pub answer: Answer,
     pub rec: Standby,

@@ -1,4 +1,6 @@
 // The form of a standby's record: what a step tests of it before it looks at anything else. Serves rules 5.2.
+#![tactic(auto)]
+
 ghost use Rattle.std.specs.Prelude.{◌≡◌, drop};
 ghost use Rattle.words.specs.Lists.{every};
 ghost use Rattle.standby_rules.specs.Standby.{is_dead, is_unused, good_place, kept_marks, has_form};

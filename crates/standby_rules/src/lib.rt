@@ -1,19 +1,21 @@
 // The standby's record and the rules of its steps. Serves rules 5: specs/Standby.antt says what each step does,
 // specs/Claims.antt what every step keeps and what stands behind each verdict; the code is in `standby`.
+#![tactic(auto)]
+
 ghost use Rattle.standby_rules.specs.Claims.{FormIsKept, ClosedIsZero, VerdictsHold, DeadInWindow, KeptStays};
 
 use messages::Status;
 use settings::MOST_OBSERVERS;
 
 // What is kept of one observer's ack; an unused place is not kept, with counter 0 and Alive.
-#[derive(Drop)]
+#[derive(Clone, Copy)]
 pub struct Place {
     pub kept: bool,
     pub counter: u64,
     pub status: Status,
 }
 
-#[derive(Drop)]
+#[derive(Clone, Copy)]
 pub struct Standby {
     pub open_flag: bool,
     pub ts: u64,
@@ -23,7 +25,7 @@ pub struct Standby {
 }
 
 // What a standby is handed: rules 5.4 to 5.10.
-#[derive(Drop)]
+#[derive(Clone, Copy)]
 pub enum StandbyEvent {
     Begin,
     // the observer, the round's ts, the counter, and the status

@@ -1,6 +1,8 @@
 // The lines of a step file, read into what they ask for. Serves rules 7.2 to 7.4.
 // Each field is read from the part of the line that begins where the field begins. Numbers go to 2^64 - 1: the steps test
 // the ranges.
+#![tactic(auto)]
+
 ghost use Rattle.std.specs.Prelude.{◌≡◌, ◌<◌, ◌≤◌};
 ghost use Rattle.step_lines.specs.Rows.{extended, row};
 ghost use Rattle.step_lines.specs.Reading.{closed_by, settings_numbers, settings_line, grant_numbers, recorder_event, recorder_numbers, cut_numbers, request_end, request_numbers, check_numbers, observer_event, observer_numbers, ack_numbers, standby_event, standby_numbers, step_line};
@@ -14,7 +16,7 @@ use settings::{Settings, settings_of};
 use standby_rules::StandbyEvent;
 
 // What a step line asks for: whose step it is, with the party's reading, and an observer's number before that.
-#[derive(Drop)]
+#[derive(Clone, Copy)]
 pub enum StepLine {
     Recorder(u64, RecorderEvent),
     Observer(u64, u64, ObserverEvent),
@@ -23,14 +25,14 @@ pub enum StepLine {
 }
 
 // What a first line gives: the settings, or nothing.
-#[derive(Drop)]
+#[derive(Clone, Copy)]
 pub enum SettingsLine {
     Given(Settings),
     Bad,
 }
 
 // Numbers in a row, each behind one tab: whether all stand there, the place behind them, and the numbers.
-#[derive(Drop)]
+#[derive(Clone, Copy)]
 pub struct Row {
     pub good: bool,
     pub behind: usize,

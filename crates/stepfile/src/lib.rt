@@ -1,5 +1,7 @@
 // A step file in, its answers out, as bytes. Serves rules 7. The file is split into lines, each line performs one step on the
 // session, and its answer is one line: what is written is a function of the input, `answers` of `stepfile_rules`.
+#![tactic(auto)]
+
 ghost use Rattle.std.specs.Prelude.{◌≡◌, ◌+◌, ◌-◌, ◌*◌, ◌≤◌, ◌<◌, length, take, drop};
 ghost use Rattle.fields.specs.Places.{put_at};
 ghost use Rattle.line_room.specs.Written.{said_of_written};
@@ -21,7 +23,7 @@ use step_lines::{SettingsLine, StepLine, read_settings_line, read_step_line};
 pub const MOST_BYTES: usize = 65536;
 
 // What is answered: the length of all answers, or 10, the room being too short.
-#[derive(Drop)]
+#[derive(Clone, Copy)]
 pub enum Answered {
     Length(usize),
     Short,

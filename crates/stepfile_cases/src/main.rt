@@ -1,5 +1,7 @@
 // Executes step files, many in one input: each ends at a `=`, and so do its answers. Serves rules 7. The cases are the file
 // stdin, their answers stdout, written by hand or by the twin. A heading is a file of its own: no SETTINGS line, so it gets 9.
+#![tactic(auto)]
+
 ghost use Rattle.std.specs.Prelude.{◌≤◌, ◌≡◌, length};
 
 use libc::STDOUT_FILENO;

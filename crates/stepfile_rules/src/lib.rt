@@ -1,5 +1,7 @@
 // The rules of step files. Serves rules 7: specs/Lines.antt splits a file into lines, specs/Files.antt gives
 // the answers to them, specs/Claims.antt says what these keep; the code is in `stepfile`.
+#![tactic(auto)]
+
 ghost use Rattle.stepfile_rules.specs.Claims.{LinesMakeTheFile, RoomIsEnough, OneLineEach};
 
 // Splitting loses nothing.

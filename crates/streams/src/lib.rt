@@ -1,6 +1,8 @@
 // What a program reads and writes, with nothing lost in silence: a failed read is told from the input's end, a failed write
 // from a whole one, and either gets a line on standard error. Serves rule 7.12. No contract can speak of the bytes that C's
 // read and write move, so these functions say only that what they count lies in the room.
+#![tactic(auto)]
+
 ghost use Rattle.std.specs.Prelude.{◌≤◌, length};
 ghost use Rattle.streams.specs.Streams.{bytes_read};
 
@@ -8,7 +10,7 @@ use libc::{STDERR_FILENO, STDIN_FILENO, STDOUT_FILENO};
 
 // What was read: so many bytes, up to the input's end or until the room was full. Or a read failed, and what came before it
 // is not the input.
-#[derive(Drop)]
+#[derive(Clone, Copy)]
 pub enum Input {
     Read(usize),
     Failed,
