@@ -1,0 +1,7 @@
+-- All of the word agrees. Assumes nothing.
+use Rattle.fields.specs.Places.{begins}
+use Rattle.fields.proofs.starts.Goals as goal
+
+pub returns : goal.returns
+unfolding begins
+returns c = rw c.agreement.ensures

@@ -1,0 +1,8 @@
+-- `quorums::contains_query_quorum` meets its contract: more than n - t are n - t + 1 at least. Assumes nothing.
+use native.Mathlib.Numerals.{add-one}
+use Rattle.quorums.specs.Quorums.{closes}
+use Rattle.quorums.proofs.contains_query_quorum.Goals as goal
+
+pub returns : goal.returns
+unfolding closes
+returns c = rw (c.before.less.ensures, c.count_members.ensures, add-one)

@@ -1,0 +1,6 @@
+-- `quorums::quorums_grow` meets its contract: the theorem. Assumes nothing.
+use Rattle.quorums.proofs.Quorums.{quorums_grow_lem}
+use Rattle.quorums.proofs.quorums_grow.Goals as goal
+
+pub returns : goal.returns
+returns c = quorums_grow_lem

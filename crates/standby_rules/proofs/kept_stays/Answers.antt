@@ -1,0 +1,6 @@
+-- `standby_rules::kept_stays` meets its contract: the theorem. Assumes nothing.
+use Rattle.standby_rules.proofs.Rounds.{kept_stays_lem}
+use Rattle.standby_rules.proofs.kept_stays.Goals as goal
+
+pub returns : goal.returns
+returns c = kept_stays_lem
