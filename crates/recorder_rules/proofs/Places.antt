@@ -1,7 +1,5 @@
 -- The places of a record that a step is handed: 64 of leases and 16 of grants. Assumes nothing.
-use mathlib.Core.Path.{sym, ◌∙◌}
 use mathlib.Core.List.{List}
-use lib.ListN.{length-map}
 use mir.Val.{Val}
 use denote.Laws.{Is}
 use denote.Struct.Declared.{row}
@@ -15,6 +13,6 @@ pub sized : (rec : Recorder) (vs : List Val) → Is (row the_type) rec vs → Si
 sized rec vs is =
     let fields = owed the_type the_laws rec vs is in
     record {
-      sends = sym (length-map rec.sends _) ∙ fields.1.1.1.1.1.0.1.0.1;
-      grants = sym (length-map rec.grants _) ∙ fields.1.1.1.1.1.1.0.1.0.1;
+      sends = fields.1.1.1.1.1.0.1.0.1;
+      grants = fields.1.1.1.1.1.1.0.1.0.1;
     }
