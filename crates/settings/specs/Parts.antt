@@ -3,7 +3,7 @@ use Rattle.std.specs.Prelude.{◌≤◌}
 use Rattle.settings.specs.declared.Settings.{Settings}
 use Rattle.settings.specs.Settings.{n, t, η, Δ, P, O, G, most_observers}
 
--- settings that pass `inRange` have it
+-- settings that pass `in_range` have it
 pub record InRange (s : Settings) : Type 0 where
   pub n_least : 1 ≤ n s
   pub n_greatest : n s ≤ most_observers
