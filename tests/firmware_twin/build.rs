@@ -1,4 +1,4 @@
-//! Links the archive that `rt staticlib firmware` writes, and again whenever it has changed.
+//! Links the archive that `tools/host firmware` writes, and again whenever it has changed.
 
 fn main() {
     let folder = std::path::Path::new(env!("CARGO_MANIFEST_DIR")).join("../../target/staticlib");
