@@ -1,5 +1,5 @@
 -- The form as the code tests it: the conditions in the order of rule 3.2, joined from the left. Where the counter is 0 the
--- zeros of the places follow from other conditions. Assumes nothing.
+-- zeros of the places follow from other conditions.
 use Prim.Native.Nat.{ℕ, zero, suc, ◌-◌, ◌≤◌, ◌<◌}
 use native.Mathlib.Omega.{arith}
 use mathlib.Core.Path.{◌≡◌, refl, sym, ap, ap₂, ◌∙◌}

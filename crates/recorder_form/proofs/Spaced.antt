@@ -1,4 +1,4 @@
--- The spacing of the open leases, walked by an index i: one pair more, and the end. Assumes nothing.
+-- The spacing of the open leases, walked by an index i: one pair more, and the end.
 use Prim.Native.Nat.{ℕ, ◌+◌, ◌-◌, ◌≤◌, ◌<◌}
 use native.Mathlib.Omega.{arith}
 use native.Mathlib.Nat.{not-suc-le-zero, le_of_suc-le-suc}

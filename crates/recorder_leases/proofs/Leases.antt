@@ -1,5 +1,5 @@
 -- The open leases, walked by an index i: those that lack grants and those that are kept; and a store at the first free
--- place. Assumes nothing.
+-- place.
 use Prim.Native.Nat.{ℕ, suc, ◌+◌, ◌-◌, ◌≤◌, ◌<◌}
 use native.Mathlib.Omega.{arith}
 use native.Mathlib.Nat.{add_assoc}

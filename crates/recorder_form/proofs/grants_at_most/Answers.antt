@@ -1,6 +1,5 @@
 -- `recorder_form::grants_at_most` meets its contract. The loop's invariant: no grant is above the counter exactly if none of
--- those passed was and none to come is. Assumes nothing.
-use Prim.Native.Nat.{◌≤◌, ◌-◌}
+-- those passed was and none to come is.
 use native.Mathlib.Omega.{arith}
 use mathlib.Core.Path.{refl}
 use Rattle.words.specs.Tests.{◌≤?◌}

@@ -1,5 +1,5 @@
 -- `recorder_form::grants_at_most` meets its contract. The loop's invariant: no grant is above the counter exactly if none of
--- those passed was and none to come is. Assumes nothing.
+-- those passed was and none to come is.
 use Prim.Native.Nat.{◌≤◌, ◌-◌}
 use mathlib.Core.Path.{◌≡◌}
 use mathlib.Core.Bool.{◌&&◌}

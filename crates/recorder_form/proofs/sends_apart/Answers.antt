@@ -1,6 +1,6 @@
 -- `recorder_form::sends_apart` meets its contract. The loop's invariant: all readings stand apart exactly if those passed did and
--- those to come do. Assumes nothing.
-use Prim.Native.Nat.{◌+◌, ◌-◌}
+-- those to come do.
+use Prim.Native.Nat.{◌+◌}
 use native.Mathlib.Omega.{arith}
 use mathlib.Core.Path.{refl}
 use lib.ListN.{take, length-take}

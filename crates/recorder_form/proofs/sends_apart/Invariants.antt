@@ -1,5 +1,5 @@
 -- `recorder_form::sends_apart` meets its contract. The loop's invariant: all readings stand apart exactly if those passed did and
--- those to come do. Assumes nothing.
+-- those to come do.
 use Prim.Native.Nat.{◌≤◌, ◌-◌}
 use mathlib.Core.Path.{◌≡◌}
 use mathlib.Core.Bool.{◌&&◌}

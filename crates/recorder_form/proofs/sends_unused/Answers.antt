@@ -1,6 +1,5 @@
 -- `recorder_form::sends_unused` meets its contract. The loop's invariant: all places are 0 exactly if those passed were and
--- those to come are. Assumes nothing.
-use Prim.Native.Nat.{◌-◌}
+-- those to come are.
 use native.Mathlib.Omega.{arith}
 use Rattle.words.proofs.Walks.{every_more, every_done}
 use Rattle.recorder_rules.specs.Recorder.{is_zero}

@@ -1,5 +1,5 @@
 -- `recorder_form::sends_young` meets its contract. The loop's invariant: all leases are young exactly if those passed were and
--- those to come are. Assumes nothing.
+-- those to come are.
 use Prim.Native.Nat.{◌-◌}
 use native.Mathlib.Omega.{arith}
 use mathlib.Core.Path.{refl}

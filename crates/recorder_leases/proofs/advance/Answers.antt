@@ -1,4 +1,4 @@
--- `recorder_leases::advance` meets its contract. Assumes nothing.
+-- `recorder_leases::advance` meets its contract.
 use borrow.Author.Tests.{eq-eqb, ne_eqb}
 use Rattle.recorder_rules.specs.Recorder.{advanced}
 use Rattle.recorder_leases.specs.Advanced.{advanced_to}

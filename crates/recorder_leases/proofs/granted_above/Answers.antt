@@ -1,5 +1,5 @@
 -- `recorder_leases::granted_above` meets its contract. The loop's invariant: the marks of the observers passed are set, the
--- rest are not. Assumes nothing.
+-- rest are not.
 use Prim.Native.Nat.{suc, ◌+◌, ◌-◌}
 use native.Mathlib.Omega.{arith}
 use mathlib.Core.Path.{◌≡◌, refl, ◌∙◌}

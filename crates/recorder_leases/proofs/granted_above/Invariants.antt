@@ -1,6 +1,6 @@
 -- `recorder_leases::granted_above` meets its contract. The loop's invariant: the marks of the observers passed are set, the
--- rest are not. Assumes nothing.
-use Prim.Native.Nat.{◌+◌, ◌≤◌, ◌-◌}
+-- rest are not.
+use Prim.Native.Nat.{◌≤◌, ◌-◌}
 use mathlib.Core.Path.{◌≡◌}
 use mathlib.Core.Bool.{false}
 use mathlib.Core.List.{◌++◌, map}

@@ -1,4 +1,4 @@
--- `recorder_leases::is_granted_above` meets its contract. Assumes nothing.
+-- `recorder_leases::is_granted_above` meets its contract.
 use native.Mathlib.Numerals.{add-one}
 use Rattle.recorder_leases.proofs.is_granted_above.Goals as goal
 

@@ -1,6 +1,6 @@
 -- `recorder_leases::sift` meets its contract. The loop's invariant: a lease lacks grants exactly if one of those passed did or
 -- one of those to come does, and those passed that have not ended stand in their places; the leases walked are all that have a
--- place. Assumes nothing.
+-- place.
 use Prim.Native.Nat.{ℕ, ◌<◌, ◌-◌, min}
 use native.Mathlib.Nat.{add-zero, min-le_left, min-le_right}
 use native.Mathlib.Omega.{arith}
@@ -38,42 +38,41 @@ number_at-number-requires c = (omega arith, omega arith)
 
 pub loop-i-preserved : goal.loop-i-preserved
 loop-i-preserved c =
-    let less = c.before.before.less.ensures in
-    let l = c.before.before.before.before in
-    let a = l.before.before.before.args in
-    let i = l.loop-i.i in
+    let a = c.args in
+    let i = c.loop-i.i in
     let xs = leases a.rec in
     let in_list : i < length xs = omega arith in
     let here = get_or-take a.rec.open_leases a.rec.sends i 0 (omega arith) in
     let ks = kept a.s a.reading (take i xs) in
-    ⊎_ELIM (λ w.
-    let ended = le-leb (P a.s) (a.reading - get_or xs i 0) (omega (arith, here, w.0.taken)) in
-    let same = kept_ended a.s a.reading xs i in_list ended in (
-      omega arith,
-      omega (arith, w.4),
-      rw (w.3, w.2.ensures, w.1.ensures)
-          (lacking_ended a.s a.rec a.reading (oldest a.rec) xs i l.loop-i.lacks in_list ended l.loop-i.invariant.2),
-      rw same (w.4 ∙ l.loop-i.invariant.3),
-      rw same (w.5 ∙ l.loop-i.invariant.4),
-      l.loop-i.invariant.5,
-      l.loop-i.invariant.6,
-      l.loop-i.invariant.7,
-    ))
-    (λ w.
-    let young = lt-leb (P a.s) (a.reading - get_or xs i 0) (omega (arith, here, w.0.left)) in
-    let more = kept_young a.s a.reading xs i in_list young in
-    let place : length ks < 64 = omega arith in (
-      omega arith,
-      omega (arith, w.2),
-      rw w.1 (lacking_kept a.s a.rec a.reading (oldest a.rec) xs i l.loop-i.lacks in_list young
-          l.loop-i.invariant.2),
-      rw (more, length-append ks (get_or xs i 0 ∷ [])) (omega (arith, w.2)),
-      w.3 ∙ rw (more, l.loop-i.invariant.4, l.loop-i.invariant.3, ← here) (placed_push ks (get_or xs i 0) place),
-      l.loop-i.invariant.5,
-      l.loop-i.invariant.6,
-      l.loop-i.invariant.7,
-    ))
-    c.if-s-less.branch
+    elim c.if-s-less.branch [
+      | then-s-less w ↦
+          let ended = le-leb (P a.s) (a.reading - get_or xs i 0) (omega (arith, here, w.if-s-less.true)) in
+          let same = kept_ended a.s a.reading xs i in_list ended in (
+            omega arith,
+            omega (arith, w.count-is),
+            rw (w.lacks-is, w.is_granted_above.ensures, w.number_at-number.ensures)
+                (lacking_ended a.s a.rec a.reading (oldest a.rec) xs i c.loop-i.lacks in_list ended c.loop-i.invariant.2),
+            rw same (w.count-is ∙ c.loop-i.invariant.3),
+            rw same (w.sends-is ∙ c.loop-i.invariant.4),
+            c.loop-i.invariant.5,
+            c.loop-i.invariant.6,
+            c.loop-i.invariant.7,
+          )
+      | else-s-less w ↦
+          let young = lt-leb (P a.s) (a.reading - get_or xs i 0) (omega (arith, here, w.if-s-less.false)) in
+          let more = kept_young a.s a.reading xs i in_list young in
+          let place : length ks < 64 = omega arith in (
+            omega arith,
+            omega (arith, w.count-is),
+            rw w.lacks-is (lacking_kept a.s a.rec a.reading (oldest a.rec) xs i c.loop-i.lacks in_list young
+                c.loop-i.invariant.2),
+            rw (more, length-append ks (get_or xs i 0 ∷ [])) (omega (arith, w.count-is)),
+            w.sends-is ∙ rw (more, c.loop-i.invariant.4, c.loop-i.invariant.3, ← here) (placed_push ks (get_or xs i 0) place),
+            c.loop-i.invariant.5,
+            c.loop-i.invariant.6,
+            c.loop-i.invariant.7,
+          )
+    ]
 
 pub returns : goal.returns
 returns c =

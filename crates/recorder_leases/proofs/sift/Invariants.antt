@@ -1,6 +1,6 @@
 -- `recorder_leases::sift` meets its contract. The loop's invariant: a lease lacks grants exactly if one of those passed did or
 -- one of those to come does, and those passed that have not ended stand in their places; the leases walked are all that have a
--- place. Assumes nothing.
+-- place.
 use Prim.Native.Nat.{◌+◌, ◌≤◌, ◌-◌}
 use mathlib.Core.Path.{◌≡◌}
 use mathlib.Core.Bool.{◌||◌}
