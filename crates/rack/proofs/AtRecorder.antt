@@ -1,4 +1,4 @@
--- An event at the recorder keeps the invariant. Assumes nothing.
+-- An event at the recorder keeps the invariant.
 use Prim.Native.Nat.{ℕ, ◌+◌, ◌-◌, ◌≤◌, ◌<◌}
 use native.Mathlib.Omega.{arith}
 use native.Mathlib.Nat.{le_trans, le_refl}

@@ -1,5 +1,5 @@
 -- An event at the standby, and a restart of it, keep the invariant, and when it is told dead the request that it names is
--- doomed. Assumes nothing.
+-- doomed.
 use Prim.Native.Nat.{ℕ, ◌+◌, ◌≤◌, ◌<◌}
 use native.Mathlib.Omega.{arith}
 use native.Mathlib.Nat.{le_trans, le_refl}

@@ -1,4 +1,4 @@
--- Claim 2: a recorder that had registered and whose requests have run out is detected. Assumes nothing.
+-- Claim 2: a recorder that had registered and whose requests have run out is detected.
 use Prim.Native.Nat.{ℕ, ◌+◌, ◌*◌, ◌≤◌, ◌<◌}
 use native.Mathlib.Omega.{arith}
 use native.Mathlib.Nat.{le_refl}

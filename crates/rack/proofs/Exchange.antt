@@ -1,4 +1,4 @@
--- Claim 3: a round whose query quorum's acks arrive within the timeliness bound ends by the last of them. Assumes nothing.
+-- Claim 3: a round whose query quorum's acks arrive within the timeliness bound ends by the last of them.
 use Prim.Native.Nat.{ℕ, zero, suc, ◌+◌, ◌-◌, ◌≤◌, ◌<◌}
 use native.Mathlib.Omega.{arith}
 use native.Mathlib.Nat.{le_trans, le_refl, add-zero, zero-add, add-suc, suc-add}
