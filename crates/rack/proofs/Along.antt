@@ -1,4 +1,4 @@
--- The invariant holds along every run. Assumes nothing.
+-- The invariant holds along every run.
 use Prim.Native.Nat.{ℕ, ◌≤◌, ◌<◌, max}
 use native.Mathlib.Omega.{arith}
 use native.Mathlib.Nat.{le_trans, le_refl}

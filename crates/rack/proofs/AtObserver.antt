@@ -1,4 +1,4 @@
--- An event at an observer, and a crash of one, keep the invariant. Assumes nothing.
+-- An event at an observer, and a crash of one, keep the invariant.
 use Prim.Native.Nat.{ℕ, ◌+◌, ◌≤◌, ◌<◌}
 use native.Mathlib.Omega.{arith}
 use native.Mathlib.Nat.{le_trans, le_refl}
@@ -16,7 +16,7 @@ use Rattle.messages.specs.declared.Status.TheVariants.{Alive, Dead}
 use Rattle.messages.specs.declared.Message.{Message}
 use Rattle.messages.specs.declared.Message.TheVariants.{LeaseRequest, LeaseGrant, Check, CheckAck}
 use Rattle.messages.specs.Answers.{Spoken, sends, sent, message, refuses}
-use Rattle.messages.specs.Outcomes.{Outcome}
+use Rattle.messages.specs.Outcomes.{Outcome, ◌leaving◌}
 use Rattle.messages.proofs.Outcomes.{nothing_is_no_message, same_message}
 use Rattle.observer_rules.specs.declared.Observer.{Observer}
 use Rattle.observer_rules.specs.Observer.{last_reading_of, at_reading, store, step_of, status_at, restart_of, has_form}
@@ -262,8 +262,9 @@ module _ (s : Settings) (ok : refusal_of s ≡ 0) (clocks : Clocks) (L : ℕ) (p
     unfolding delivered sent store
     by_way (refusing _ k) form came soon = as_stored (last_reading_of o) (refuses k) form (λ m q. nothing_is_no_message q)
     by_way (granting c there more _) form came soon =
-        stored soon _ form refl c more refl came
-        (just _ (LeaseGrant c)
+        let out : Outcome Observer = sends (LeaseGrant c) leaving record { latest = c; deadline = r + O s; last_reading = r } in
+        stored soon out form refl c more refl came
+        (just (remembered soon out form refl c more refl came) (LeaseGrant c)
         (λ y who.
         let known = ((behind s clocks L p inv recorder (LeaseRequest c) came).1 refl).1 in
         rw (← (same_observer who)) (inl (refl, le_refl c, le_refl g), le_refl g, there, omega (arith, more), known)))

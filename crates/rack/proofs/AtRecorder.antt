@@ -1,4 +1,4 @@
--- An event at the recorder keeps the invariant. Assumes nothing.
+-- An event at the recorder keeps the invariant.
 use Prim.Native.Nat.{ℕ, ◌+◌, ◌-◌, ◌≤◌, ◌<◌}
 use native.Mathlib.Omega.{arith}
 use native.Mathlib.Nat.{le_trans, le_refl}
@@ -29,7 +29,7 @@ use Rattle.recorder_rules.proofs.Ways.{each_way}
 use Rattle.rack.specs.Clocks.{Clocks}
 use Rattle.rack.specs.Runs.{State, party_key, posted, delivered, was_sent}
 use Rattle.rack.specs.Runs.Event.{at_recorder}
-use Rattle.rack.specs.Runs.Party.{recorder, standby, observer}
+use Rattle.rack.specs.Runs.Party.{recorder, observer}
 use Rattle.rack.proofs.Clocks.{Reads, lower}
 use Rattle.rack.proofs.History.{posted_all}
 use Rattle.rack.proofs.Ghost.{By, Ghost, Extends, stays, Behind, EndedFact, ack_on, history_on, ended_on, doomed_on}

@@ -1,5 +1,5 @@
 -- An event at the standby, and a restart of it, keep the invariant, and when it is told dead the request that it names is
--- doomed. Assumes nothing.
+-- doomed.
 use Prim.Native.Nat.{ℕ, ◌+◌, ◌≤◌, ◌<◌}
 use native.Mathlib.Omega.{arith}
 use native.Mathlib.Nat.{le_trans, le_refl}
@@ -11,7 +11,7 @@ use lib.ListN.{get_or-map}
 use Rattle.words.specs.Said.{Said}
 use Rattle.words.proofs.Walks.{after_store}
 use Rattle.settings.specs.declared.Settings.{Settings}
-use Rattle.settings.specs.Settings.{n, O, rounding, window, refusal_of}
+use Rattle.settings.specs.Settings.{O, rounding, window, refusal_of}
 use Rattle.quorums.specs.Quorums.{◌∋◌}
 use Rattle.settings.proofs.Laws.{accepted_in_range, window_law}
 use Rattle.messages.specs.declared.Status.{Status}
@@ -33,7 +33,7 @@ use Rattle.standby_rules.proofs.Ways.Way.{refusing, beginning, expiring, staying
 use Rattle.rack.specs.Clocks.{Clocks}
 use Rattle.rack.specs.Runs.{State, party_key, posted, delivered, was_sent}
 use Rattle.rack.specs.Runs.Event.{at_standby}
-use Rattle.rack.specs.Runs.Party.{recorder, standby, observer}
+use Rattle.rack.specs.Runs.Party.{standby, observer}
 use Rattle.rack.proofs.Clocks.{Reads, lower}
 use Rattle.rack.proofs.History.{posted_all}
 use Rattle.rack.proofs.Ghost.{Ghost, Extends, stays, AckFact, Behind, Doomed, ack_on, history_on, doomed_on}

@@ -1,5 +1,5 @@
 -- The clock lemma: what two readings of one clock say of the span between them. All that stands above goes by `upper` and
--- `lower`, with spans of at most twice the observers' lease. Assumes nothing.
+-- `lower`, with spans of at most twice the observers' lease.
 use Prim.Native.Nat.{ℕ, ◌+◌, ◌-◌, ◌*◌, ◌≤◌, ◌<◌, min}
 use native.Mathlib.Omega.{arith}
 use mathlib.Core.Path.{◌≡◌, refl, sym, ap, ◌∙◌}

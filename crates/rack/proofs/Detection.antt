@@ -1,4 +1,4 @@
--- Claim 2: a recorder that had registered and whose requests have run out is detected. Assumes nothing.
+-- Claim 2: a recorder that had registered and whose requests have run out is detected.
 use Prim.Native.Nat.{ℕ, ◌+◌, ◌*◌, ◌≤◌, ◌<◌}
 use native.Mathlib.Omega.{arith}
 use native.Mathlib.Nat.{le_refl}
@@ -27,7 +27,7 @@ use Rattle.standby_rules.specs.declared.StandbyEvent.TheVariants.{Begin as begin
 use Rattle.standby_rules.specs.Claims.{Kept}
 use Rattle.standby_rules.proofs.Verdicts.{verdicts_hold_lem}
 use Rattle.rack.specs.Clocks.{Clocks}
-use Rattle.rack.specs.Runs.{ours, Event, time, Sent, Party, message_key, same_numbers, was_sent, posted, perform, on_clock, delivered, state_after, answer_to, is_run}
+use Rattle.rack.specs.Runs.{ours, Event, Sent, Party, message_key, same_numbers, was_sent, posted, perform, on_clock, delivered, state_after, answer_to, is_run}
 use Rattle.rack.specs.Runs.Event.{at_recorder, at_observer, at_standby, crash, restart}
 use Rattle.rack.specs.Runs.Party.{recorder, standby, observer}
 use Rattle.rack.specs.Claims.{Ended, is_request, sent_by, arrives_within, prompt, no_begin, RegisteredIn, DeadIsDetected}

@@ -1,4 +1,4 @@
--- Only the standby's answers end a round. Assumes nothing.
+-- Only the standby's answers end a round.
 use Prim.Native.Nat.{ℕ, ◌+◌, ◌*◌}
 use mathlib.Core.Path.{◌≡◌, refl}
 use mathlib.Core.Bool.{Bool, false, ◌||◌}

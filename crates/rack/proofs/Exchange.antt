@@ -1,4 +1,4 @@
--- Claim 3: a round whose query quorum's acks arrive within the timeliness bound ends by the last of them. Assumes nothing.
+-- Claim 3: a round whose query quorum's acks arrive within the timeliness bound ends by the last of them.
 use Prim.Native.Nat.{ℕ, zero, suc, ◌+◌, ◌-◌, ◌≤◌, ◌<◌}
 use native.Mathlib.Omega.{arith}
 use native.Mathlib.Nat.{le_trans, le_refl, add-zero, zero-add, add-suc, suc-add}
@@ -14,7 +14,7 @@ use Rattle.words.specs.Lists.{every, some}
 use Rattle.words.specs.Said.{first}
 use Rattle.words.proofs.Booleans.{both_hold, not_both}
 use Rattle.settings.specs.declared.Settings.{Settings}
-use Rattle.settings.specs.Settings.{n, Δ, window, refusal_of}
+use Rattle.settings.specs.Settings.{Δ, window, refusal_of}
 use Rattle.quorums.specs.Quorums.{closes, ◌∋◌}
 use Rattle.settings.proofs.Laws.{accepted, accepted_in_range, window_law}
 use Rattle.quorums.proofs.Quorums.{quorums_grow_lem}
@@ -38,7 +38,7 @@ use Rattle.standby_rules.proofs.Ways.Way.{refusing, beginning, expiring, staying
 use Rattle.rack.specs.Clocks.{Clocks}
 use Rattle.rack.specs.Runs.{ours, Event, time, delivered, on_clock, perform, state_after, answer_to, is_run}
 use Rattle.rack.specs.Runs.Event.{at_recorder, at_observer, at_standby, crash, restart}
-use Rattle.rack.specs.Runs.Party.{standby, observer}
+use Rattle.rack.specs.Runs.Party.{observer}
 use Rattle.rack.specs.Claims.{Ended, is_begin, no_begin, is_restart, no_restart, ack_from, sixteen, ackers, OneExchangeEnds}
 use Rattle.rack.proofs.Clocks.{Reads, is_reading, upper}
 use Rattle.rack.proofs.Invariant.{behind}

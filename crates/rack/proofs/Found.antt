@@ -1,4 +1,4 @@
--- A recorder that has gone down is found dead: the query ends, and what ends says dead. Assumes nothing.
+-- A recorder that has gone down is found dead: the query ends, and what ends says dead.
 use native.Mathlib.Omega.{arith}
 use mathlib.Core.Bool.{Bool, true, not}
 use mathlib.Core.List.{List, [], ◌∷◌, ◌++◌, append_assoc}

@@ -1,4 +1,4 @@
--- What may always happen. Assumes nothing.
+-- What may always happen.
 use Prim.Native.Nat.{ℕ, suc, ◌+◌, ◌≤◌}
 use native.Mathlib.Omega.{arith}
 use mathlib.Core.Bool.{Bool, true, false, ◌&&◌, ◌||◌, not}

@@ -1,6 +1,6 @@
 -- What the proof remembers of a run and the state does not hold: when and at what reading each request was sent, when the
 -- recorder made its last step, and by when each observer had stored which counter. Facts about messages and observers in
--- these terms, and that time and further events take none of them away. Assumes nothing.
+-- these terms, and that time and further events take none of them away.
 use Prim.Native.Nat.{ℕ, ◌+◌, ◌≤◌, ◌<◌}
 use native.Mathlib.Omega.{arith}
 use native.Mathlib.Nat.{le_trans, le_refl}

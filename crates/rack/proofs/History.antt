@@ -1,4 +1,4 @@
--- What was sent: facts that hold of every message of the history hold of every message that is delivered. Assumes nothing.
+-- What was sent: facts that hold of every message of the history hold of every message that is delivered.
 use Prim.Native.Nat.{ℕ, ◌+◌, ◌-◌}
 use native.Mathlib.Omega.{arith}
 use mathlib.Core.Path.{◌≡◌, refl, sym, ap, ◌∙◌}

@@ -1,5 +1,4 @@
 -- The invariant of runs, in parts: recorder, observers, standby and history, each in the terms of proofs/Ghost.antt.
--- Assumes nothing.
 use Prim.Native.Nat.{ℕ, ◌+◌, ◌≤◌, ◌<◌}
 use native.Mathlib.Nat.{le_trans}
 use mathlib.Core.Path.{◌≡◌}

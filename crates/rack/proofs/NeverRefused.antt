@@ -1,5 +1,5 @@
 -- In a run the recorder is never refused: its record keeps its form, its readings are in range and do not fall, and a grant
--- that arrives was given by one of the observers, for a number that was asked for. Assumes nothing.
+-- that arrives was given by one of the observers, for a number that was asked for.
 use Prim.Native.Nat.{ℕ, ◌≤◌}
 use native.Mathlib.Nat.{le_trans}
 use mathlib.Core.Path.{◌≡◌, refl}

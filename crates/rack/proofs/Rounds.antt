@@ -1,4 +1,4 @@
--- How a round goes along a run: what ends it, and what its begin leaves. Assumes nothing.
+-- How a round goes along a run: what ends it, and what its begin leaves.
 use Prim.Native.Nat.{ℕ, ◌≤◌}
 use native.Mathlib.Nat.{le_trans}
 use mathlib.Core.Path.{◌≡◌, refl, ap, ◌∙◌}

@@ -1,5 +1,5 @@
 -- Claim 1: once the standby is told dead, every later event of the recorder is answered stopped.
--- The core: a request that is doomed is sent by a recorder that does not go on. Assumes nothing.
+-- The core: a request that is doomed is sent by a recorder that does not go on.
 use Prim.Native.Nat.{ℕ, ◌+◌, ◌-◌, ◌≤◌, ◌<◌}
 use native.Mathlib.Omega.{arith}
 use native.Mathlib.Nat.{le_trans, le_refl}

@@ -1,4 +1,4 @@
--- Every message that a run sends has its form. Assumes nothing.
+-- Every message that a run sends has its form.
 use Prim.Native.Nat.{ℕ}
 use mathlib.Core.Path.{◌≡◌, refl}
 use mathlib.Core.Bool.{Bool, true}

@@ -1,6 +1,6 @@
 -- Under all accepted settings some run ends in dead, with all that is supposed of it: all clocks show the common time; at time
 -- 0 the recorder sends its only request, and every observer grants it; as soon as the bound of detection allows, the standby
--- asks, and every observer replies within the tick. Assumes nothing.
+-- asks, and every observer replies within the tick.
 use Prim.Native.Nat.{ℕ, zero, suc, ◌+◌, ◌-◌, ◌*◌, ◌≤◌, ◌<◌, zero-le}
 use native.Mathlib.Omega.{arith}
 use native.Mathlib.Nat.{le_trans, le_refl, add-zero, zero-add, add-suc, suc-add}

@@ -1,4 +1,4 @@
--- All that a run computes by: who unfolds `computing` unfolds all of it. Assumes nothing.
+-- All that a run computes by: who unfolds `computing` unfolds all of it.
 use Rattle.words.specs.Lists.{every, some, count_where}
 use Rattle.words.specs.Said.{first}
 use Rattle.settings.specs.Settings.{ranges, each_in, in_range, refusal_of, window}

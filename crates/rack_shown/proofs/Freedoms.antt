@@ -1,4 +1,4 @@
--- The run of specs/Freedoms.antt computes to what is written in it. Assumes nothing.
+-- The run of specs/Freedoms.antt computes to what is written in it.
 use mathlib.Core.Path.{refl}
 use Rattle.rack_shown.proofs.Computing.{computing}
 use Rattle.rack_shown.specs.Freedoms.{everything, EverythingHappens}

@@ -1,4 +1,4 @@
--- The runs and near-runs of specs/Needed.antt compute to what is written in them. Assumes nothing.
+-- The runs and near-runs of specs/Needed.antt compute to what is written in them.
 use mathlib.Core.Bool.{Bool, true, false, ◌&&◌}
 use mathlib.Core.List.{List, [], ◌∷◌}
 use mathlib.Core.Path.{◌≡◌, refl}

@@ -1,5 +1,4 @@
 -- The rules of specs/Shortcuts.antt are not safe: their runs compute, and in each a drive after dead is answered running.
--- Assumes nothing.
 use mathlib.Core.List.{[], ◌∷◌}
 use mathlib.Core.Path.{refl}
 use lib.ListN.{drop}

@@ -1,4 +1,4 @@
--- The runs of specs/Shown.antt: each table computes to what is written in it. Assumes nothing.
+-- The runs of specs/Shown.antt: each table computes to what is written in it.
 use native.Mathlib.Nat.{le_refl}
 use mathlib.Core.Bool.{Bool, true, false, ◌&&◌, not}
 use mathlib.Core.List.{List, [], ◌∷◌, ◌++◌}
