@@ -1,4 +1,4 @@
--- Laws of `digits`, each proved once over the count of digits. Assumes nothing.
+-- Laws of `digits`, each proved once over the count of digits.
 use Prim.Native.Nat.{ℕ, zero, suc, ◌+◌, ◌/◌, ◌%◌, ◌^◌, ◌≤◌, ◌<◌}
 use native.Mathlib.Nat.{div-lt_iff_lt-mul, pow-suc}
 use native.Mathlib.Omega.{arith}

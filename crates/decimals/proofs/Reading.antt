@@ -1,4 +1,4 @@
--- Laws of reading numbers: what a turn of the reader does, and that reading and writing undo one another. Assumes nothing.
+-- Laws of reading numbers: what a turn of the reader does, and that reading and writing undo one another.
 use Prim.Native.Nat.{ℕ, zero, suc, ◌+◌, ◌-◌, ◌*◌, ◌/◌, ◌%◌, ◌^◌, ◌≤◌, ◌<◌}
 use native.Mathlib.Numerals.{add-one}
 use native.Mathlib.Omega.{arith}

@@ -47,6 +47,7 @@ fn passes(value: u64, digit: u64, greatest: u64) -> bool
 }
 
 // Reads on from the byte at `begin`, `start` having been read before it.
+#[tactic(auto, using(crate::proofs::Reading::next_byte))]
 fn read_on(s: &[u8], greatest: u64, start: u64, begin: usize) -> Number
     ensures { result ≡ read_on greatest start begin (drop begin s.now) }
 {
@@ -78,6 +79,7 @@ pub fn read_number(s: &[u8], allowed: bool, greatest: u64) -> Number
 }
 
 // How many digits `n` has.
+#[tactic(auto, using(crate::proofs::Digits::count_one, crate::proofs::Digits::count_more))]
 pub fn digit_count(n: u64) -> usize
     ensures { result ≡ length (digits n) }
 {

@@ -1,4 +1,4 @@
--- The writers' answers are told apart by what they say. Assumes nothing.
+-- The writers' answers are told apart by what they say.
 use Prim.Native.Nat.{ℕ}
 use mathlib.Core.Path.{◌≡◌, refl}
 use Rattle.words.specs.Tests.{if◌then◌else◌, ◌=?◌}

@@ -1,4 +1,4 @@
--- Laws of lines in room, and each message's line as the code makes it. Assumes nothing.
+-- Laws of lines in room, and each message's line as the code makes it.
 use Prim.Native.Nat.{ℕ, ◌≤◌, ◌<◌}
 use mathlib.Core.Path.{◌≡◌, refl}
 use mathlib.Core.List.{List, [], ◌∷◌, ◌++◌, append_assoc}

@@ -1,4 +1,4 @@
--- Past the end stands 0, which is no digit. Assumes nothing.
+-- Past the end stands 0, which is no digit.
 use Prim.Native.Nat.{ℕ}
 use lib.ListN.{get_or-eq_default}
 use Rattle.decimals.proofs.digit_at.Goals as goal

@@ -1,4 +1,4 @@
--- The digits counted and those of what is left are one more than the digits of n. Assumes nothing.
+-- The digits counted and those of what is left are one more than the digits of n.
 use Prim.Native.Nat.{◌+◌, ◌<◌, ◌^◌}
 use mathlib.Core.Path.{◌≡◌}
 use lib.ListN.{length}

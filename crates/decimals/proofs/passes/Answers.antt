@@ -1,4 +1,4 @@
--- A sum past 2 ^ 64 - 1 passes every bound. Assumes nothing.
+-- A sum past 2 ^ 64 - 1 passes every bound.
 use Prim.Native.Nat.{◌+◌, ◌*◌}
 use native.Mathlib.Omega.{arith}
 use mathlib.Core.Path.{sym}

@@ -1,4 +1,4 @@
--- The digits are written into the part from `at` on, if all of them fit. Assumes nothing.
+-- The digits are written into the part from `at` on, if all of them fit.
 use Prim.Native.Nat.{ℕ, ◌+◌, ◌≤◌}
 use native.Mathlib.Omega.{arith}
 use mathlib.Core.Path.{sym, ap, ◌∙◌}
@@ -9,27 +9,25 @@ use Rattle.decimals.proofs.put_number.Goals as goal
 
 pub returns-then-out-at : goal.returns-then-out-at
 returns-then-out-at c =
-    let a = c.before.before.before.args in (
-      sym (next_not a.out-1.now a.at (digits a.n) (omega arith)),
+    let a = c.args in (
+      sym (next_not a.out.now a.at (digits a.n) (omega arith)),
       sym
-          (put_not a.out-1.now a.at (digits a.n) (omega arith)),
+          (put_not a.out.now a.at (digits a.n) (omega arith)),
     )
 
 pub returns-then-out-at-2 : goal.returns-then-out-at-2
 returns-then-out-at-2 c =
-    let a = c.before.before.before.before.args in (
-      sym (next_not a.out-1.now a.at (digits a.n) (omega (arith, c.before.before.digit_count-count.ensures))),
+    let a = c.args in (
+      sym (next_not a.out.now a.at (digits a.n) (omega (arith, c.digit_count-count.ensures))),
       sym
-          (put_not a.out-1.now a.at (digits a.n) (omega (arith, c.before.before.digit_count-count.ensures))),
+          (put_not a.out.now a.at (digits a.n) (omega (arith, c.digit_count-count.ensures))),
     )
 
 pub returns : goal.returns
 returns c =
-    let w = c.before.before in
-    let d = w.before.before.before.before in
-    let a = d.before.before.args in
-    let e = d.digit_count-count.ensures in
-    let fits : a.at + length (digits a.n) ≤ length a.out-1.now = omega (arith, e) in (
-      ap (λ (k : ℕ). a.at + k) e ∙ sym (next_fits a.out-1.now a.at (digits a.n) fits),
-      rw w.write_digits.ensures.1 (put_part a.out-1.now a.at (digits a.n) fits),
+    let a = c.args in
+    let e = c.digit_count-count.ensures in
+    let fits : a.at + length (digits a.n) ≤ length a.out.now = omega (arith, e) in (
+      ap (λ (k : ℕ). a.at + k) e ∙ sym (next_fits a.out.now a.at (digits a.n) fits),
+      rw c.write_digits.ensures.1 (put_part a.out.now a.at (digits a.n) fits),
     )

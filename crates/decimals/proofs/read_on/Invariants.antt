@@ -1,4 +1,4 @@
--- Whatever has been read, reading on from the i-th byte gives what reading on from the first gave. Assumes nothing.
+-- Whatever has been read, reading on from the i-th byte gives what reading on from the first gave.
 use Prim.Native.Nat.{◌-◌}
 use mathlib.Core.Path.{◌≡◌}
 use lib.ListN.{length, drop}
