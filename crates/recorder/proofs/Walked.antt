@@ -1,5 +1,5 @@
 -- What the parts of a step give, put together: a step that is not refused goes by what `advance` gives, and the record at its
--- event has room for one lease more. Assumes nothing.
+-- event has room for one lease more.
 use Prim.Native.Nat.{ℕ}
 use mathlib.Core.Path.{◌≡◌, refl, sym, ap, ◌∙◌}
 use mathlib.Core.Bool.{Bool, true, false, not}
