@@ -1,5 +1,5 @@
 -- A plan that is done is the step of the rules: its stores are those that the rules list, all of them or the first few of a
--- cut. Assumes nothing.
+-- cut.
 use Prim.Native.Nat.{ℕ, ◌+◌, ◌≤◌}
 use mathlib.Core.Path.{◌≡◌, refl, sym, ap}
 use mathlib.Core.Bool.{Bool, true, false}

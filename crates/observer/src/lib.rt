@@ -117,6 +117,7 @@ fn refusal_of(s: Settings, o: Observer, x: u64, reading: u64, event: ObserverEve
 // ---- What an accepted step is to do
 
 // Dead from the deadline on (rule 4.7).
+#[tactic(auto, unfolding(observer_rules::specs::Observer::status_at))]
 fn status_at(o: Observer, reading: u64) -> Status
     ensures { result ≡ status_at o reading }
 {
@@ -128,6 +129,7 @@ fn status_at(o: Observer, reading: u64) -> Status
 }
 
 // A request is granted, or met with silence; a cut sends nothing; a check is told what the observer has seen.
+#[tactic(auto, unfolding(observer_rules::specs::Observer::answer_of, messages::specs::Answers::said, messages::specs::Answers::words_of))]
 fn answer_of(o: Observer, reading: u64, event: ObserverEvent) -> Answer
     ensures { said result ≡ answer_of o reading event }
 {
@@ -148,6 +150,7 @@ fn answer_of(o: Observer, reading: u64, event: ObserverEvent) -> Answer
 }
 
 // Of a request that would be silent there is nothing to store, and so nothing to cut (rules 4.4, 4.6).
+#[tactic(auto, unfolding(crate::specs::Plan::how_many))]
 fn how_many(o: Observer, event: ObserverEvent) -> u64
     ensures { result ≡ how_many o event }
 {
@@ -158,6 +161,7 @@ fn how_many(o: Observer, event: ObserverEvent) -> u64
     }
 }
 
+#[tactic(auto, unfolding(crate::specs::Plan::new_latest))]
 fn new_latest(event: ObserverEvent) -> u64
     ensures { result ≡ new_latest event }
 {
@@ -169,6 +173,7 @@ fn new_latest(event: ObserverEvent) -> u64
 }
 
 // A box that was cut has lost its memory (rule 4.6).
+#[tactic(auto, unfolding(observer_rules::specs::Observer::reading_after))]
 fn reading_after(reading: u64, event: ObserverEvent) -> u64
     ensures { result ≡ reading_after reading event }
 {

@@ -1,0 +1,7 @@
+-- `observer::restart` meets its contract. Assumes nothing.
+use Rattle.observer_rules.specs.Observer.{restart_of}
+use Rattle.observer.proofs.restart.Goals as goal
+
+pub returns : goal.returns
+unfolding restart_of
+returns c = c.set_last_reading.ensures
