@@ -8,11 +8,11 @@ use stepfile::{Answered, answer_file};
 use streams::{Input, read_input, write_output};
 
 // Answers the input by way of the room, which is enough for every input that can be read.
-fn run(input: &[u8], out: &mut [u8]) {
+fn run(rt: &HostRuntime, input: &[u8], out: &mut [u8]) {
     let answered = answer_file(input, out);
     match answered {
         Answered::Length(count) => {
-            write_output(b"rackrun", &out[..count]);
+            write_output(rt, b"rackrun", &out[..count]);
         }
         Answered::Short => {}
     }
@@ -32,12 +32,12 @@ fn answer_room() -> [u8; 458752]
     [0; 458752]
 }
 
-fn main() {
+fn main(rt: HostRuntime) {
     let mut room = input_room();
     let mut out = answer_room();
-    let input = read_input(b"rackrun", &mut room);
+    let input = read_input(&rt, b"rackrun", &mut room);
     match input {
-        Input::Read(count) => run(&room[..count], &mut out),
+        Input::Read(count) => run(&rt, &room[..count], &mut out),
         Input::Failed => {}
     }
 }

@@ -36,15 +36,15 @@ fn read_case(line: &[u8]) -> LineRead {
 }
 
 // A message that was read is shown as it is written back.
-pub fn read(line: &[u8]) {
+pub fn read(rt: &impl Print, line: &[u8]) {
     let answer = read_case(line);
     let mut room = [0u8; 44];
     match answer {
         LineRead::Got(m) => {
             let written = lines::write_line(m, &mut room);
-            show::line(written, &room);
+            show::line(rt, written, &room);
         }
-        LineRead::Bad => show::text(b"9\n"),
+        LineRead::Bad => show::text(rt, b"9\n"),
     }
 }
 
@@ -59,14 +59,14 @@ fn shown(byte: u8) -> u8 {
     byte
 }
 
-fn show_room(room: &[u8; 48]) {
+fn show_room(rt: &impl Print, room: &[u8; 48]) {
     let mut seen = [0u8; 48];
     for i in 0..48 {
         seen[i] = shown(room[i]);
     }
-    show::text(b" ");
-    show::text(&seen);
-    show::text(b"\n");
+    show::text(rt, b" ");
+    show::text(rt, &seen);
+    show::text(rt, b"\n");
 }
 
 fn message_of(v: [u64; 7]) -> Message {
@@ -83,21 +83,21 @@ fn message_of(v: [u64; 7]) -> Message {
     }
 }
 
-fn show_length(written: LineWritten) {
+fn show_length(rt: &impl Print, written: LineWritten) {
     match written {
-        LineWritten::Length(count) => show::number(count as u64),
-        LineWritten::Bad => show::text(b"refused 9"),
-        LineWritten::Short => show::text(b"refused 10"),
+        LineWritten::Length(count) => show::number(rt, count as u64),
+        LineWritten::Bad => show::text(rt, b"refused 9"),
+        LineWritten::Short => show::text(rt, b"refused 10"),
     }
 }
 
 // The room is the front of 48 bytes, all of them a point at first; a point that is left was not touched.
-pub fn write(v: [u64; 7]) {
+pub fn write(rt: &impl Print, v: [u64; 7]) {
     let mut space = [b'.'; 48];
     let room = v[0];
     if room <= 48 {
         let written = lines::write_line(message_of(v), &mut space[..room as usize]);
-        show_length(written);
-        show_room(&space);
+        show_length(rt, written);
+        show_room(rt, &space);
     }
 }

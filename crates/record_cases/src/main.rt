@@ -22,7 +22,7 @@ mod lines_alone;
 mod rack;
 mod show;
 
-ghost use Rattle.std.specs.Prelude.{◌≤◌, length};
+ghost use Rattle.std.specs.Prelude.{◌≤◌, ◌≡◌, length};
 
 use fields::starts;
 use rack::Rack;
@@ -43,29 +43,29 @@ fn line_length(s: &[u8]) -> usize
 }
 
 // What the line does: it shows something, or changes the rack.
-fn perform(held: Rack, line: &[u8]) -> Rack {
+fn perform(rt: &impl Print, held: Rack, line: &[u8]) -> Rack {
     if starts(line, b"#") {
-        show::text(line);
+        show::text(rt, line);
         return held;
     }
     if starts(line, b"<") {
-        lines_alone::read(line);
+        lines_alone::read(rt, line);
         return held;
     }
     if starts(line, b"w") {
-        lines_alone::write(rack::numbers(line));
+        lines_alone::write(rt, rack::numbers(line));
         return held;
     }
     if starts(line, b"S") {
-        return act::settle(held, line);
+        return act::settle(rt, held, line);
     }
     if starts(line, b"R") | starts(line, b"O") | starts(line, b"Q") {
-        return act::step(held, line);
+        return act::step(rt, held, line);
     }
-    rack::with(held, line)
+    rack::with(rt, held, line)
 }
 
-fn run(input: &[u8]) {
+fn run(rt: &impl Print, input: &[u8]) {
     let mut held = rack::fresh();
     let mut at: usize = 0;
     while at < input.len() {
@@ -74,16 +74,23 @@ fn run(input: &[u8]) {
         if count == 0 {
             return;
         }
-        held = perform(held, &rest[..count]);
+        held = perform(rt, held, &rest[..count]);
         at += count;
     }
 }
 
-fn main() {
-    let mut room = io::large_buffer();
-    let input = read_input(b"record_cases", &mut room);
+// Room for the cases.
+fn input_room() -> [u8; 65536]
+    ensures { 65536 ≡ length result }
+{
+    [0; 65536]
+}
+
+fn main(rt: HostRuntime) {
+    let mut room = input_room();
+    let input = read_input(&rt, b"record_cases", &mut room);
     match input {
-        Input::Read(count) => run(&room[..count]),
+        Input::Read(count) => run(&rt, &room[..count]),
         Input::Failed => {}
     }
 }

@@ -153,13 +153,13 @@ fn recorder_with(rec: Recorder, line: &[u8]) -> Recorder {
     rec
 }
 
-fn observer_with(o: Observer, line: &[u8]) -> Observer {
+fn observer_with(rt: &impl Print, o: Observer, line: &[u8]) -> Observer {
     if starts(line, b"o") {
         return observer_of(numbers(line));
     }
     if starts(line, b"z") {
         let left = observer::restart(o);
-        show::observer(left);
+        show::observer(rt, left);
         return left;
     }
     o
@@ -176,7 +176,7 @@ fn standby_with(q: Standby, line: &[u8]) -> Standby {
 }
 
 // The rack as a line that sets a record leaves it.
-pub fn with(held: Rack, line: &[u8]) -> Rack {
+pub fn with(rt: &impl Print, held: Rack, line: &[u8]) -> Rack {
     let settings = held.settings;
     let rec = held.recorder;
     let o = held.observer;
@@ -184,7 +184,7 @@ pub fn with(held: Rack, line: &[u8]) -> Rack {
     Rack {
         settings,
         recorder: recorder_with(rec, line),
-        observer: observer_with(o, line),
+        observer: observer_with(rt, o, line),
         standby: standby_with(q, line),
     }
 }

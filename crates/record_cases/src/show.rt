@@ -1,7 +1,6 @@
 // Standard output for the cases: answers as `rackrun` writes them, and the numbers of a record.
 ghost use Rattle.std.specs.Prelude.{◌≡◌, nat_abs};
 
-use libc::STDOUT_FILENO;
 use line_room::LineWritten;
 use messages::Answer;
 use observer_rules::Observer;
@@ -9,43 +8,44 @@ use recorder_rules::Recorder;
 use settings::{Settings, Slacks};
 use standby_rules::Standby;
 
-pub fn text(bytes: &[u8]) {
-    io::write_all(STDOUT_FILENO, bytes);
+// A write that fails needs no word: what arrives is compared with the file stdout.
+pub fn text(rt: &impl Print, bytes: &[u8]) {
+    let _ = rt.write_all(bytes);
 }
 
-pub fn number(x: u64) {
-    io::print_decimal(STDOUT_FILENO, x);
+pub fn number(rt: &impl Print, x: u64) {
+    let _ = rt.print(x);
 }
 
 // A number with a blank before it.
-fn next(x: u64) {
-    text(b" ");
-    number(x);
+fn next(rt: &impl Print, x: u64) {
+    text(rt, b" ");
+    number(rt, x);
 }
 
 // What was written into the room, or that it was not.
-pub fn line(written: LineWritten, room: &[u8]) {
+pub fn line(rt: &impl Print, written: LineWritten, room: &[u8]) {
     match written {
         LineWritten::Length(count) => {
             if count <= room.len() {
-                text(&room[..count]);
+                text(rt, &room[..count]);
             }
         }
-        LineWritten::Bad => text(b"9\n"),
-        LineWritten::Short => text(b"10\n"),
+        LineWritten::Bad => text(rt, b"9\n"),
+        LineWritten::Short => text(rt, b"10\n"),
     }
 }
 
-pub fn answer(a: Answer) {
+pub fn answer(rt: &impl Print, a: Answer) {
     let mut room = [0u8; 64];
     let written = answer_lines::write_answer(a, &mut room);
-    line(written, &room);
+    line(rt, written, &room);
 }
 
-pub fn judged(s: Settings) {
+pub fn judged(rt: &impl Print, s: Settings) {
     let mut room = [0u8; 96];
     let written = answer_lines::write_settings_answer(s, &mut room);
-    line(written, &room);
+    line(rt, written, &room);
 }
 
 // How far x is from zero. -1 - x fits for every x below zero, -x does not.
@@ -59,56 +59,56 @@ fn distance(x: i64) -> u64
     }
 }
 
-fn signed(x: i64) {
-    text(b" ");
+fn signed(rt: &impl Print, x: i64) {
+    text(rt, b" ");
     if x < 0 {
-        text(b"-");
+        text(rt, b"-");
     }
-    number(distance(x));
+    number(rt, distance(x));
 }
 
-pub fn slacks(s: Settings) {
+pub fn slacks(rt: &impl Print, s: Settings) {
     let answer = settings::slacks_of(s);
-    text(b"slacks");
+    text(rt, b"slacks");
     match answer {
         Slacks::Of { a, b, c } => {
-            signed(a);
-            signed(b);
-            signed(c);
+            signed(rt, a);
+            signed(rt, b);
+            signed(rt, c);
         }
-        Slacks::Refused(refusal) => next(refusal as u64),
+        Slacks::Refused(refusal) => next(rt, refusal as u64),
     }
-    text(b"\n");
+    text(rt, b"\n");
 }
 
 // Stopped flag, counter, last send, last reading, open leases.
-pub fn recorder(rec: Recorder) {
-    text(b"left");
-    next(rec.stopped);
-    next(rec.counter);
-    next(rec.last_send);
-    next(rec.last_reading);
-    next(rec.open_leases);
-    text(b"\n");
+pub fn recorder(rt: &impl Print, rec: Recorder) {
+    text(rt, b"left");
+    next(rt, rec.stopped);
+    next(rt, rec.counter);
+    next(rt, rec.last_send);
+    next(rt, rec.last_reading);
+    next(rt, rec.open_leases);
+    text(rt, b"\n");
 }
 
 // Latest, deadline, last reading.
-pub fn observer(o: Observer) {
-    text(b"left");
-    next(o.latest);
-    next(o.deadline);
-    next(o.last_reading);
-    text(b"\n");
+pub fn observer(rt: &impl Print, o: Observer) {
+    text(rt, b"left");
+    next(rt, o.latest);
+    next(rt, o.deadline);
+    next(rt, o.last_reading);
+    text(rt, b"\n");
 }
 
 // Open or closed, ts, last reading.
-pub fn standby(q: Standby) {
+pub fn standby(rt: &impl Print, q: Standby) {
     if q.open_flag {
-        text(b"left open");
+        text(rt, b"left open");
     } else {
-        text(b"left closed");
+        text(rt, b"left closed");
     }
-    next(q.ts);
-    next(q.last_reading);
-    text(b"\n");
+    next(rt, q.ts);
+    next(rt, q.last_reading);
+    text(rt, b"\n");
 }

@@ -4,7 +4,6 @@
 
 ghost use Rattle.std.specs.Prelude.{◌≤◌, ◌≡◌, length};
 
-use libc::STDOUT_FILENO;
 use stepfile::{Answered, answer_file};
 use streams::{Input, read_input};
 
@@ -22,30 +21,42 @@ fn file_length(s: &[u8]) -> usize
     i
 }
 
-fn answer(file: &[u8], out: &mut [u8]) {
+// Writes to standard output. A write that fails needs no word: what arrives is compared with the file stdout.
+fn put(rt: &impl Print, bytes: &[u8]) {
+    let _ = rt.write_all(bytes);
+}
+
+fn answer(rt: &impl Print, file: &[u8], out: &mut [u8]) {
     let answered = answer_file(file, out);
     match answered {
         Answered::Length(count) => {
             if count <= out.len() {
-                io::write_all(STDOUT_FILENO, &out[..count]);
+                put(rt, &out[..count]);
             }
         }
         Answered::Short => {
-            io::write_all(STDOUT_FILENO, b"room too short\n");
+            put(rt, b"room too short\n");
         }
     }
-    io::write_all(STDOUT_FILENO, b"=\n");
+    put(rt, b"=\n");
 }
 
 // Behind its `=` a file has a line feed.
-fn answer_each(input: &[u8], out: &mut [u8]) {
+fn answer_each(rt: &impl Print, input: &[u8], out: &mut [u8]) {
     let mut at: usize = 0;
     while at < input.len() {
         let rest = &input[at..];
         let count = file_length(rest);
-        answer(&rest[..count], out);
+        answer(rt, &rest[..count], out);
         at += count + 2;
     }
+}
+
+// Room for the cases.
+fn input_room() -> [u8; 65536]
+    ensures { 65536 ≡ length result }
+{
+    [0; 65536]
 }
 
 // Room for the answers to every input.
@@ -63,25 +74,25 @@ fn too_long() -> [u8; 65537]
 }
 
 // What no input file can be: one of the greatest length, one byte more, and one without room for its answers.
-fn answer_ends(out: &mut [u8]) {
+fn answer_ends(rt: &impl Print, out: &mut [u8]) {
     let long = too_long();
-    answer(&long[..65536], out);
-    answer(&long, out);
+    answer(rt, &long[..65536], out);
+    answer(rt, &long, out);
     let mut small = [0u8; 6];
-    answer(&long[..1], &mut small);
+    answer(rt, &long[..1], &mut small);
 }
 
-fn run(input: &[u8], out: &mut [u8]) {
-    answer_each(input, out);
-    answer_ends(out);
+fn run(rt: &impl Print, input: &[u8], out: &mut [u8]) {
+    answer_each(rt, input, out);
+    answer_ends(rt, out);
 }
 
-fn main() {
-    let mut room = io::large_buffer();
+fn main(rt: HostRuntime) {
+    let mut room = input_room();
     let mut out = answer_room();
-    let input = read_input(b"stepfile_cases", &mut room);
+    let input = read_input(&rt, b"stepfile_cases", &mut room);
     match input {
-        Input::Read(count) => run(&room[..count], &mut out),
+        Input::Read(count) => run(&rt, &room[..count], &mut out),
         Input::Failed => {}
     }
 }

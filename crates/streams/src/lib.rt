@@ -1,12 +1,15 @@
 // What a program reads and writes, with nothing lost in silence: a failed read is told from the input's end, a failed write
-// from a whole one, and either gets a line on standard error. Serves rule 7.12. No contract can speak of the bytes that C's
-// read and write move, so these functions say only that what they count lies in the room.
+// from a whole one, and either gets a line on standard error. Serves rule 7.12. No contract can speak of the bytes that the
+// system moves. But the two loops stand over any reader and any writer, and where such a one says which bytes it has, the
+// contracts say that these are read and written, whole and in order.
 #![tactic(auto)]
 
 ghost use Rattle.std.specs.Prelude.{◌≤◌, length};
-ghost use Rattle.streams.specs.Streams.{bytes_read};
+ghost use Rattle.std.specs.Bool.{OnTrue};
+ghost use Rattle.std.specs.Io.KnownBytes.{Appends};
+ghost use Rattle.streams.specs.Streams.{ReadsWhole, bytes_read};
 
-use libc::{STDERR_FILENO, STDIN_FILENO, STDOUT_FILENO};
+use std::io::{Read, Write};
 
 // What was read: so many bytes, up to the input's end or until the room was full. Or a read failed, and what came before it
 // is not the input.
@@ -16,39 +19,53 @@ pub enum Input {
     Failed,
 }
 
-// Reads standard input into the room, to the input's end or until the room is full.
-fn read_whole(room: &mut [u8]) -> Input
-    ensures { bytes_read result ≤ length room.new }
+// Reads into the room, to the input's end or until the room is full. A call that a signal interrupts counts as failed.
+fn read_whole<R: Read>(from: &mut R, room: &mut [u8]) -> Input
+    ensures in_the_room { bytes_read result ≤ length room.new }
+    ensures whole { ReadsWhole (R.remaining from.old) (R.remaining from.new) room.new result }
 {
     let mut done: usize = 0;
     while done < room.len() {
-        let got = libc::read(STDIN_FILENO, &mut room[done..]);
-        if got < 0 {
-            return Input::Failed;
+        match from.read(&mut room[done..]) {
+            Ok(0) => return Input::Read(done),
+            Ok(more) => done += more,
+            Err(_) => return Input::Failed,
         }
-        let more = io::count(got, &room[done..]);
-        if more == 0 {
-            return Input::Read(done);
-        }
-        done += more;
     }
     Input::Read(done)
 }
 
+// Writes all of the bytes and answers true, or stops at the first write that fails or takes nothing. A call that a signal
+// interrupts counts as failed.
+fn write_whole<W: Write>(to: &mut W, bytes: &[u8]) -> bool
+    ensures { OnTrue result (Appends (W.contents to.old) (W.contents to.new) bytes.now) }
+{
+    let mut done: usize = 0;
+    while done < bytes.len() {
+        match to.write(&bytes[done..]) {
+            Ok(0) => return false,
+            Ok(more) => done += more,
+            Err(_) => return false,
+        }
+    }
+    true
+}
+
 // A line on standard error. Where that fails too there is nobody left to tell.
-fn complain(program: &[u8], what: &[u8]) {
-    io::write_all(STDERR_FILENO, program);
-    io::write_all(STDERR_FILENO, what);
+fn complain(rt: &HostRuntime, program: &[u8], what: &[u8]) {
+    write_whole(&mut rt.stderr(), program);
+    write_whole(&mut rt.stderr(), what);
 }
 
 // Reads a program's input, and says so on standard error where it cannot be read whole.
-pub fn read_input(program: &[u8], room: &mut [u8]) -> Input
+pub fn read_input(rt: &HostRuntime, program: &[u8], room: &mut [u8]) -> Input
     ensures { bytes_read result ≤ length room.new }
 {
-    let input = read_whole(room);
+    let input = read_whole(&mut rt.stdin(), room);
     match input {
         Input::Read(_) => {}
         Input::Failed => complain(
+            rt,
             program,
             b": standard input could not be read to its end; nothing is answered\n",
         ),
@@ -57,9 +74,10 @@ pub fn read_input(program: &[u8], room: &mut [u8]) -> Input
 }
 
 // Writes a program's output, and says so on standard error where it cannot be written whole.
-pub fn write_output(program: &[u8], bytes: &[u8]) {
-    if !io::write_all(STDOUT_FILENO, bytes) {
+pub fn write_output(rt: &HostRuntime, program: &[u8], bytes: &[u8]) {
+    if !write_whole(&mut rt.stdout(), bytes) {
         complain(
+            rt,
             program,
             b": standard output could not be written; answers are missing\n",
         );
