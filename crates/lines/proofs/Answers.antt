@@ -1,4 +1,4 @@
--- The reader's answers are told apart by what they say. Assumes nothing.
+-- The reader's answers are told apart by what they say.
 use mathlib.Core.Path.{◌≡◌, refl}
 use Rattle.words.specs.Said.{Said}
 use Rattle.words.specs.Said.Said.{refusal, gives}
