@@ -1,4 +1,4 @@
--- A buffer of 680 bytes holds the record of its bytes. Assumes nothing.
+-- A buffer of 680 bytes holds the record of its bytes.
 use Prim.Native.Nat.{ℕ}
 use mathlib.Core.Path.{◌≡◌, refl}
 use mathlib.Core.List.{List}
