@@ -151,6 +151,7 @@ fn judge(places: [Place; MOST_OBSERVERS]) -> Answer
 }
 
 // A first ack has been put into `places`: the round closes at a quorum, or waits.
+#[tactic(auto, unfolding(standby_rules::specs::Standby::after_keeping, messages::specs::Answers::said, messages::specs::Answers::words_of))]
 fn after_keeping(s: Settings, q: Standby, reading: u64, places: [Place; MOST_OBSERVERS]) -> Stepped
     ensures { outcome result ≡ after_keeping s q reading places }
 {
@@ -172,6 +173,7 @@ fn after_keeping(s: Settings, q: Standby, reading: u64, places: [Place; MOST_OBS
     }
 }
 
+#[tactic(auto, unfolding(messages::specs::Answers::said, messages::specs::Answers::words_of))]
 fn late(reading: u64) -> Stepped
     ensures { outcome result ≡ (says "late" leaving closed reading) }
 {
@@ -182,6 +184,7 @@ fn late(reading: u64) -> Stepped
 }
 
 // The round goes on: only the last reading changes.
+#[tactic(auto, unfolding(messages::specs::Answers::said, messages::specs::Answers::words_of))]
 fn still_waiting(q: Standby, reading: u64) -> Stepped
     ensures { outcome result ≡ (says "waiting" leaving at_reading reading q) }
 {
@@ -194,6 +197,7 @@ fn still_waiting(q: Standby, reading: u64) -> Stepped
 }
 
 // Opens a round at this reading, forgets any other, and sends the CHECK: rule 5.4.
+#[tactic(auto, unfolding(standby_rules::specs::Standby::begin_event, messages::specs::Answers::said))]
 fn begin_event(reading: u64) -> Stepped
     ensures { outcome result ≡ begin_event reading }
 {
@@ -238,6 +242,7 @@ fn ack_event(
 }
 
 // Whether the round is late or goes on.
+#[tactic(auto, unfolding(standby_rules::specs::Standby::poll_event))]
 fn poll_event(s: Settings, q: Standby, reading: u64) -> Stepped
     ensures { outcome result ≡ poll_event (window s) q reading }
 {

@@ -1,7 +1,6 @@
--- `standby::step` meets its contract: it is refused, or comes to its event. Assumes nothing.
+-- `standby::step` meets its contract: it is refused, or comes to its event.
 use native.Mathlib.Omega.{arith}
 use mathlib.Core.Path.{◌≡◌, sym, ◌∙◌}
-use borrow.Author.Rules.{rules}
 use Rattle.words.specs.Said.{first}
 use Rattle.settings.specs.declared.Settings.{Settings}
 use Rattle.settings.proofs.Laws.{accepted_in_range}
@@ -13,18 +12,14 @@ use Rattle.standby_rules.specs.declared.StandbyEvent.TheVariants.{Begin, Ack, Po
 use Rattle.standby_rules.specs.Standby.{refusals_of, step_within}
 use Rattle.standby_rules.proofs.Refusals.{ack_counted}
 use Rattle.standby.specs.Parts.{Ready}
-use Rattle.standby.proofs.step.Statement.{statement}
-use Rattle.standby.proofs.step.Tie as tie
+use Rattle.standby.proofs.step.Goals as goal
 
-refusal-of-requires : tie.Need-refusal-of-requires
-refusal-of-requires c κs = search rules
-
-returns : tie.Need-returns
+pub returns-then-refused-ne0 : goal.returns-then-refused-ne0
 unfolding step_within said
-returns c =
-    let a = c.before.before.args in
-    let number = c.before.refusal-of.ensures in
-    sym (is_refused (refusals_of a.s a.q a.reading a.event) a.q _ (λ none. c.if1.true (number ∙ none))
+returns-then-refused-ne0 c =
+    let a = c.args in
+    let number = c.refusal_of-refused.ensures in
+    sym (is_refused (refusals_of a.s a.q a.reading a.event) a.q _ (λ none. c.if-refused-ne0.true (number ∙ none))
     ∙ rw (← number))
 
 -- an observer that is not refused has a place
@@ -35,19 +30,15 @@ ready s q r (Ack x ts cnt status) e =
     omega (arith, counted.observer, (accepted_in_range s counted.admitted.settings).n_greatest)
 ready s q r Poll e = tt
 
-event-of-requires : tie.Need-event-of-requires
-event-of-requires c κs =
-    let a = c.before.before.args in
-    ready a.s a.q a.reading a.event (sym c.before.refusal-of.ensures ∙ c.if1.false)
+pub event_of-requires : goal.event_of-requires
+event_of-requires c =
+    let a = c.args in
+    ready a.s a.q a.reading a.event (sym c.refusal_of-refused.ensures ∙ c.if-refused-ne0.false)
 
-returns-2 : tie.Need-returns-2
+pub returns : goal.returns
 unfolding step_within
-returns-2 c =
-    let d = c.before in
-    let a = d.before.before.args in
-    c.event-of.ensures
+returns c =
+    let a = c.args in
+    c.event_of.ensures
     ∙ sym (not_refused (refusals_of a.s a.q a.reading a.event) a.q _
-    (sym d.before.refusal-of.ensures ∙ d.if1.false))
-
-pub step_spec : {M : Type 1} → statement M
-step_spec = tie.close (tie.spec refusal-of-requires returns event-of-requires returns-2)
+    (sym c.refusal_of-refused.ensures ∙ c.if-refused-ne0.false))
