@@ -1,22 +1,22 @@
 -- Determinacy of the public functions of `fields` and `decimals`.
-use Rattle.std.specs.Prelude.{◌≡◌}
+use Rattle.std.specs.Prelude.{◌≡◌, refl}
 use Rattle.settled.specs.Settled.{Settled, SettledBy}
-use Rattle.decimals.proofs.read_number as read_number
-use Rattle.decimals.proofs.digit_count as digit-count
-use Rattle.decimals.proofs.put_number as put-number
-use Rattle.fields.proofs.put_bytes as put-bytes
-use Rattle.fields.proofs.agreement as agreement
-use Rattle.fields.proofs.starts as starts
-use Rattle.fields.proofs.is_exactly as is-exactly
-use Rattle.fields.proofs.part_from as part_from_lem
+use Rattle.decimals.specs.contracts.read_number as read_number
+use Rattle.decimals.specs.contracts.digit_count as digit_count
+use Rattle.decimals.specs.contracts.put_number as put_number
+use Rattle.fields.specs.contracts.put_bytes as put_bytes
+use Rattle.fields.specs.contracts.agreement as agreement
+use Rattle.fields.specs.contracts.starts as starts
+use Rattle.fields.specs.contracts.is_exactly as is_exactly
+use Rattle.fields.specs.contracts.part_from as part_from
 
 pub record FieldsSettled : Type 0 where
-  pub read_number : Settled read_number.Kinds.ps read_number.Kinds.r read_number.Reads.Post
-  pub digit_count : Settled digit-count.Kinds.ps digit-count.Kinds.r digit-count.Reads.Post
-  pub put_number : Settled put-number.Kinds.ps put-number.Kinds.r put-number.Reads.Post
-  pub put_bytes : Settled put-bytes.Kinds.ps put-bytes.Kinds.r put-bytes.Reads.Post
-  pub agreement : Settled agreement.Kinds.ps agreement.Kinds.r agreement.Reads.Post
-  pub starts : Settled starts.Kinds.ps starts.Kinds.r starts.Reads.Post
-  pub is_exactly : Settled is-exactly.Kinds.ps is-exactly.Kinds.r is-exactly.Reads.Post
+  pub read_number : Settled read_number.ended (λ M 𝓤. read_number.clauses) refl
+  pub digit_count : Settled digit_count.ended (λ M 𝓤. digit_count.clauses) refl
+  pub put_number : Settled put_number.ended (λ M 𝓤. put_number.clauses) refl
+  pub put_bytes : Settled put_bytes.ended (λ M 𝓤. put_bytes.clauses) refl
+  pub agreement : Settled agreement.ended (λ M 𝓤. agreement.clauses) refl
+  pub starts : Settled starts.ended (λ M 𝓤. starts.clauses) refl
+  pub is_exactly : Settled is_exactly.ended (λ M 𝓤. is_exactly.clauses) refl
   -- The result is a reference: settled are the bytes that it refers to. The contract does not say where they lie.
-  pub part_from : SettledBy part_from_lem.Kinds.ps part_from_lem.Kinds.r (λ κs x x'. x.now ≡ x'.now) part_from_lem.Reads.Post
+  pub part_from : SettledBy part_from.ended (λ κs x x'. x.now ≡ x'.now) (λ M 𝓤. part_from.clauses) refl

@@ -1,14 +1,15 @@
 -- Determinacy of the public functions of `line_room` and `lines`.
+use Rattle.std.specs.Prelude.{refl}
 use Rattle.settled.specs.Settled.{Settled}
-use Rattle.lines.proofs.read_line as read-line
-use Rattle.lines.proofs.write_line as write-line
-use Rattle.line_room.proofs.write_word as write_word
-use Rattle.line_room.proofs.write_one as write-one
-use Rattle.line_room.proofs.write_two as write_two
+use Rattle.lines.specs.contracts.read_line as read_line
+use Rattle.lines.specs.contracts.write_line as write_line
+use Rattle.line_room.specs.contracts.write_word as write_word
+use Rattle.line_room.specs.contracts.write_one as write_one
+use Rattle.line_room.specs.contracts.write_two as write_two
 
 pub record LinesSettled : Type 0 where
-  pub read_line : Settled read-line.Kinds.ps read-line.Kinds.r read-line.Reads.Post
-  pub write_line : Settled write-line.Kinds.ps write-line.Kinds.r write-line.Reads.Post
-  pub write_word : Settled write_word.Kinds.ps write_word.Kinds.r write_word.Reads.Post
-  pub write_one : Settled write-one.Kinds.ps write-one.Kinds.r write-one.Reads.Post
-  pub write_two : Settled write_two.Kinds.ps write_two.Kinds.r write_two.Reads.Post
+  pub read_line : Settled read_line.ended (λ M 𝓤. read_line.clauses) refl
+  pub write_line : Settled write_line.ended (λ M 𝓤. write_line.clauses) refl
+  pub write_word : Settled write_word.ended (λ M 𝓤. write_word.clauses) refl
+  pub write_one : Settled write_one.ended (λ M 𝓤. write_one.clauses) refl
+  pub write_two : Settled write_two.ended (λ M 𝓤. write_two.clauses) refl

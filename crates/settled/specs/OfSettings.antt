@@ -1,24 +1,25 @@
 -- Determinacy of the public functions of `settings`, `quorums` and `messages`.
+use Rattle.std.specs.Prelude.{refl}
 use Rattle.settled.specs.Settled.{Settled}
-use Rattle.settings.proofs.settings_of as settings-of
-use Rattle.settings.proofs.slacks_of as slacks-of
-use Rattle.settings.proofs.refusal as refusal
-use Rattle.settings.proofs.less as less
-use Rattle.settings.proofs.round_window as round-window
-use Rattle.settings.proofs.judge as judge
-use Rattle.quorums.proofs.contains_survival_quorum as survival
-use Rattle.quorums.proofs.contains_query_quorum as query
-use Rattle.messages.proofs.is_refusal as is-refusal
-use Rattle.messages.proofs.bad_reading as bad-reading
+use Rattle.settings.specs.contracts.settings_of as settings_of
+use Rattle.settings.specs.contracts.slacks_of as slacks_of
+use Rattle.settings.specs.contracts.refusal as refusal
+use Rattle.settings.specs.contracts.less as less
+use Rattle.settings.specs.contracts.round_window as round_window
+use Rattle.settings.specs.contracts.judge as judge
+use Rattle.quorums.specs.contracts.contains_survival_quorum as contains_survival_quorum
+use Rattle.quorums.specs.contracts.contains_query_quorum as contains_query_quorum
+use Rattle.messages.specs.contracts.is_refusal as is_refusal
+use Rattle.messages.specs.contracts.bad_reading as bad_reading
 
 pub record SettingsSettled : Type 0 where
-  pub settings_of : Settled settings-of.Kinds.ps settings-of.Kinds.r settings-of.Reads.Post
-  pub slacks_of : Settled slacks-of.Kinds.ps slacks-of.Kinds.r slacks-of.Reads.Post
-  pub refusal : Settled refusal.Kinds.ps refusal.Kinds.r refusal.Reads.Post
-  pub less : Settled less.Kinds.ps less.Kinds.r less.Reads.Post
-  pub round_window : Settled round-window.Kinds.ps round-window.Kinds.r round-window.Reads.Post
-  pub judge : Settled judge.Kinds.ps judge.Kinds.r judge.Reads.Post
-  pub contains_survival_quorum : Settled survival.Kinds.ps survival.Kinds.r survival.Reads.Post
-  pub contains_query_quorum : Settled query.Kinds.ps query.Kinds.r query.Reads.Post
-  pub is_refusal : Settled is-refusal.Kinds.ps is-refusal.Kinds.r is-refusal.Reads.Post
-  pub bad_reading : Settled bad-reading.Kinds.ps bad-reading.Kinds.r bad-reading.Reads.Post
+  pub settings_of : Settled settings_of.ended (λ M 𝓤. settings_of.clauses) refl
+  pub slacks_of : Settled slacks_of.ended (λ M 𝓤. slacks_of.clauses) refl
+  pub refusal : Settled refusal.ended (λ M 𝓤. refusal.clauses) refl
+  pub less : Settled less.ended (λ M 𝓤. less.clauses) refl
+  pub round_window : Settled round_window.ended (λ M 𝓤. round_window.clauses) refl
+  pub judge : Settled judge.ended (λ M 𝓤. judge.clauses) refl
+  pub contains_survival_quorum : Settled contains_survival_quorum.ended (λ M 𝓤. contains_survival_quorum.clauses) refl
+  pub contains_query_quorum : Settled contains_query_quorum.ended (λ M 𝓤. contains_query_quorum.clauses) refl
+  pub is_refusal : Settled is_refusal.ended (λ M 𝓤. is_refusal.clauses) refl
+  pub bad_reading : Settled bad_reading.ended (λ M 𝓤. bad_reading.clauses) refl

@@ -1,12 +1,13 @@
 -- Determinacy of the public functions of `standby_form` and `standby`.
+use Rattle.std.specs.Prelude.{refl}
 use Rattle.settled.specs.Settled.{Settled}
-use Rattle.standby_form.proofs.is_dead as is_dead_lem
-use Rattle.standby_form.proofs.kept_marks as kept-marks
-use Rattle.standby_form.proofs.has_form as has_form_lem
-use Rattle.standby.proofs.step as step
+use Rattle.standby_form.specs.contracts.is_dead as is_dead
+use Rattle.standby_form.specs.contracts.kept_marks as kept_marks
+use Rattle.standby_form.specs.contracts.has_form as has_form
+use Rattle.standby.specs.contracts.step as step
 
 pub record StandbySettled : Type 0 where
-  pub is_dead : Settled is_dead_lem.Kinds.ps is_dead_lem.Kinds.r is_dead_lem.Reads.Post
-  pub kept_marks : Settled kept-marks.Kinds.ps kept-marks.Kinds.r kept-marks.Reads.Post
-  pub has_form : Settled has_form_lem.Kinds.ps has_form_lem.Kinds.r has_form_lem.Reads.Post
-  pub step : Settled step.Kinds.ps step.Kinds.r step.Reads.Post
+  pub is_dead : Settled is_dead.ended (λ M 𝓤. is_dead.clauses) refl
+  pub kept_marks : Settled kept_marks.ended (λ M 𝓤. kept_marks.clauses) refl
+  pub has_form : Settled has_form.ended (λ M 𝓤. has_form.clauses) refl
+  pub step : Settled step.ended (λ M 𝓤. step.clauses) refl

@@ -1,32 +1,61 @@
--- Determinacy of a contract, as the checker reads it: any two outcomes that it allows at the same arguments are equal.
+-- Determinacy of a contract: any two outcomes that it allows at the same arguments are equal.
 -- An outcome is the result, and the last value of each thing that was lent to be changed. What is lent only to be read
 -- ends as it was passed. Nothing is assumed of the arguments: the public functions require nothing.
-use Rattle.std.specs.Prelude.{ℕ, List, ◌≡◌}
+-- The contract is the one that its function is proved by: the clauses that stand in the function's statement.
+use Rattle.std.specs.Prelude.{◌≡◌}
+use seplogic.Ra.Ura.{Ura}
+use base.Logic.{SProp, emp}
+use types.Logic.{Logic}
+use prog.Memory.{Memory}
+use prog.Routine.{Routine}
+use contract.Monad.{Fun, fact}
 use contract.Lifetimes.{Lfts}
-use denote.Triple.Clauses.{Lasts, AtExit, at_exit}
-use borrow.Fn.Kinds.{ParamKind, ResultKind, Dens, res_t, ended_of, Out}
+use denote.Triple.Entry.{Args, Res}
+use denote.Triple.Clauses.{Ended, Clauses, Lasts, AtExit, at_exit}
 
--- n lifetimes, the kinds of the parameters and of the result, and the contract: `Post κs args x s` says that at the
--- arguments `args` it allows the result x with the parameters s at exit.
-module _ {n : ℕ} (ps : List (ParamKind n)) (r : ResultKind n) where
-  abbrev pub Result : Lfts n → Type 0
-  Result κs = (res_t r κs).Denot
+-- T is the function's signature, with what its contract sees of each parameter at exit.
+module _ (T : Ended) where
+  abbrev pub Lifetimes : Type 0
+  Lifetimes = Lfts T.signature.lifetimes
+
+  abbrev pub Arguments : Lifetimes → Type 0
+  Arguments = Args T.signature
+
+  abbrev pub Returned : Lifetimes → Type 0
+  Returned = Res T.signature
 
   -- the last values of what was lent
-  abbrev pub Lent : (κs : Lfts n) → Dens κs ps → Type 0
-  Lent = Lasts (ended_of n ps r)
+  abbrev pub Lent : (κs : Lifetimes) → Arguments κs → Type 0
+  Lent = Lasts T
 
   -- the parameters at exit: what was lent at its last value, the others as they were passed
-  abbrev pub ends : (κs : Lfts n) (args : Dens κs ps) → Lent κs args → AtExit (ended_of n ps r) κs
-  ends = at_exit (ended_of n ps r)
+  abbrev pub ends : (κs : Lifetimes) (args : Arguments κs) → Lent κs args → AtExit T κs
+  ends = at_exit T
+
+  -- `Post κs args x s`: at the arguments `args` the result x is allowed with the parameters s at exit
+  abbrev pub Allowed : Type 1
+  Allowed = (κs : Lifetimes) → Arguments κs → Returned κs → AtExit T κs → Type 0
+
+  -- the clauses of a contract: assertions, in any model of the logic
+  abbrev pub Contract : Type 2
+  Contract = (M : Type 1) (𝓤 : Ura M) → Logic 𝓤 → (Memory → SProp 𝓤) → (Routine → Fun 𝓤) → Clauses 𝓤 T
+
+  -- the contract requires nothing, and ensures just that the outcome is allowed
+  abbrev pub Says : Contract → Allowed → Type 2
+  Says contract Post =
+      contract
+      ≡ (λ M 𝓤 𝓛 memory run κs args.
+          record { ghost = Unit {0}; requires = λ _. emp 𝓤; ensures = λ _ x s. fact 𝓤 (Post κs args x s) })
 
   -- two outcomes at the same arguments; `Same` is for a result that is not compared whole
-  abbrev pub SettledBy : ((κs : Lfts n) → Result κs → Result κs → Type 0) → Out n ps r → Type 0
-  SettledBy Same Post =
-      (κs : Lfts n) (args : Dens κs ps) (x x' : Result κs) (lent lent' : Lent κs args)
+  abbrev pub SettledBy :
+      ((κs : Lifetimes) → Returned κs → Returned κs → Type 0) → (contract : Contract) {Post : Allowed} → Says contract Post
+      → Type 0
+  SettledBy Same contract {Post} says =
+      (κs : Lifetimes) (args : Arguments κs) (x x' : Returned κs) (lent lent' : Lent κs args)
       → Post κs args x (ends κs args lent)
       → Post κs args x' (ends κs args lent')
       → Same κs x x' × (lent ≡ lent')
 
-  abbrev pub Settled : Out n ps r → Type 0
+  abbrev pub Settled : (contract : Contract) {Post : Allowed} → Says contract Post → Type 0
   Settled = SettledBy (λ κs x x'. x ≡ x')

@@ -1,9 +1,8 @@
--- The claims on `fields` and `decimals`: each contract gives its outcome outright. Assumes nothing.
-use mathlib.Core.Path.{refl, sym, ap, ◌∙◌}
-use Rattle.settled.proofs.fields_settled.Statement.{statement}
-use Rattle.settled.proofs.fields_settled.Tie as tie
+-- The claims on `fields` and `decimals`: each contract gives its outcome outright.
+use Rattle.std.proofs.Common.{refl, sym, ap, ◌∙◌}
+use Rattle.settled.proofs.fields_settled.Goals as goal
 
-returns : tie.Need-returns
+pub returns : goal.returns
 returns c = record {
   read_number = λ _ _ _ _ _ _ p q. (p ∙ sym q, refl);
   digit_count = λ _ _ _ _ _ _ p q. (p ∙ sym q, refl);
@@ -14,6 +13,3 @@ returns c = record {
   is_exactly = λ _ _ _ _ _ _ p q. (p ∙ sym q, refl);
   part_from = λ _ _ _ _ _ _ p q. (p ∙ sym q, refl);
 }
-
-pub fields-settled-spec : {M : Type 1} → statement M
-fields-settled-spec = tie.close (tie.spec returns)

@@ -1,11 +1,10 @@
--- The claims on step files: each contract gives its outcome outright, or by what the answer says. Assumes nothing.
-use mathlib.Core.Path.{refl, sym, ap, ◌∙◌}
+-- The claims on step files: each contract gives its outcome outright, or by what the answer says.
+use Rattle.std.proofs.Common.{refl, sym, ap, ◌∙◌}
 use Rattle.line_room.proofs.Written.{written_apart}
 use Rattle.stepfile.proofs.Answers.{answered_apart}
-use Rattle.settled.proofs.files_settled.Statement.{statement}
-use Rattle.settled.proofs.files_settled.Tie as tie
+use Rattle.settled.proofs.files_settled.Goals as goal
 
-returns : tie.Need-returns
+pub returns : goal.returns
 returns c = record {
   read_settings_line = λ _ _ _ _ _ _ p q. (p ∙ sym q, refl);
   read_step_line = λ _ _ _ _ _ _ p q. (p ∙ sym q, refl);
@@ -17,6 +16,3 @@ returns c = record {
   with_observer = λ _ _ _ _ _ _ p q. (p ∙ sym q, refl);
   answer_file = λ _ _ _ _ _ _ p q. (answered_apart (p.0 ∙ sym q.0), ap (λ out. (tt, (out, tt))) (p.1 ∙ sym q.1));
 }
-
-pub files-settled-spec : {M : Type 1} → statement M
-files-settled-spec = tie.close (tie.spec returns)

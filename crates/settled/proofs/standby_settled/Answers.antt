@@ -1,17 +1,13 @@
 -- The claims on `standby_form` and `standby`: what is asked of a record is given outright, the outcome of a step by what its
--- answer says and by the record that it leaves. Assumes nothing.
-use mathlib.Core.Path.{refl, sym, ◌∙◌}
+-- answer says and by the record that it leaves.
+use Rattle.std.proofs.Common.{refl, sym, ◌∙◌}
 use Rattle.settled.proofs.Apart.{standby_apart}
-use Rattle.settled.proofs.standby_settled.Statement.{statement}
-use Rattle.settled.proofs.standby_settled.Tie as tie
+use Rattle.settled.proofs.standby_settled.Goals as goal
 
-returns : tie.Need-returns
+pub returns : goal.returns
 returns c = record {
   is_dead = λ _ _ _ _ _ _ p q. (p ∙ sym q, refl);
   kept_marks = λ _ _ _ _ _ _ p q. (p ∙ sym q, refl);
   has_form = λ _ _ _ _ _ _ p q. (p ∙ sym q, refl);
   step = λ _ _ _ _ _ _ p q. (standby_apart (p ∙ sym q), refl);
 }
-
-pub standby-settled-spec : {M : Type 1} → statement M
-standby-settled-spec = tie.close (tie.spec returns)

@@ -1,12 +1,10 @@
 -- The claims on `line_room` and `lines`: each contract gives its outcome by what the answer says, and the room outright.
--- Assumes nothing.
-use mathlib.Core.Path.{refl, sym, ap, ◌∙◌}
+use Rattle.std.proofs.Common.{refl, sym, ap, ◌∙◌}
 use Rattle.line_room.proofs.Written.{written_apart}
 use Rattle.lines.proofs.Answers.{read_apart}
-use Rattle.settled.proofs.lines_settled.Statement.{statement}
-use Rattle.settled.proofs.lines_settled.Tie as tie
+use Rattle.settled.proofs.lines_settled.Goals as goal
 
-returns : tie.Need-returns
+pub returns : goal.returns
 returns c = record {
   read_line = λ _ _ _ _ _ _ p q. (read_apart (p ∙ sym q), refl);
   write_line = λ _ _ _ _ _ _ p q. (written_apart (p.0 ∙ sym q.0), ap (λ out. (tt, (out, tt))) (p.1 ∙ sym q.1));
@@ -15,6 +13,3 @@ returns c = record {
   write_two =
       λ _ _ _ _ _ _ p q. (written_apart (p.0 ∙ sym q.0), ap (λ out. (tt, (tt, (tt, (tt, (out, tt)))))) (p.1 ∙ sym q.1));
 }
-
-pub lines-settled-spec : {M : Type 1} → statement M
-lines-settled-spec = tie.close (tie.spec returns)

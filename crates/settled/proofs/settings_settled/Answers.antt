@@ -1,11 +1,9 @@
 -- The claims on `settings`, `quorums` and `messages`: each contract gives its outcome outright, or by what the answer says.
--- Assumes nothing.
-use mathlib.Core.Path.{refl, sym, ◌∙◌}
+use Rattle.std.proofs.Common.{refl, sym, ◌∙◌}
 use Rattle.settings.proofs.Laws.{judged_apart, slacks_apart}
-use Rattle.settled.proofs.settings_settled.Statement.{statement}
-use Rattle.settled.proofs.settings_settled.Tie as tie
+use Rattle.settled.proofs.settings_settled.Goals as goal
 
-returns : tie.Need-returns
+pub returns : goal.returns
 returns c = record {
   settings_of = λ _ _ _ _ _ _ p q. (p ∙ sym q, refl);
   slacks_of = λ _ _ _ _ _ _ p q. (slacks_apart (p ∙ sym q), refl);
@@ -18,6 +16,3 @@ returns c = record {
   is_refusal = λ _ _ _ _ _ _ p q. (p ∙ sym q, refl);
   bad_reading = λ _ _ _ _ _ _ p q. (p ∙ sym q, refl);
 }
-
-pub settings-settled-spec : {M : Type 1} → statement M
-settings-settled-spec = tie.close (tie.spec returns)

@@ -1,11 +1,10 @@
 -- The claims on `recorder_form`, `recorder_leases` and `recorder`: what is asked of a record and the record at the event are
--- given outright, the outcome of a step by what its answer says and by the record that it leaves. Assumes nothing.
-use mathlib.Core.Path.{refl, sym, ◌∙◌}
+-- given outright, the outcome of a step by what its answer says and by the record that it leaves.
+use Rattle.std.proofs.Common.{refl, sym, ◌∙◌}
 use Rattle.settled.proofs.Apart.{recorder_apart}
-use Rattle.settled.proofs.recorder_settled.Statement.{statement}
-use Rattle.settled.proofs.recorder_settled.Tie as tie
+use Rattle.settled.proofs.recorder_settled.Goals as goal
 
-returns : tie.Need-returns
+pub returns : goal.returns
 returns c = record {
   fresh_recorder = λ _ _ _ _ _ _ p q. (p ∙ sym q, refl);
   has_form = λ _ _ _ _ _ _ p q. (p ∙ sym q, refl);
@@ -13,6 +12,3 @@ returns c = record {
   advance = λ _ _ _ _ _ _ p q. (p ∙ sym q, refl);
   step = λ _ _ _ _ _ _ p q. (recorder_apart (p ∙ sym q), refl);
 }
-
-pub recorder-settled-spec : {M : Type 1} → statement M
-recorder-settled-spec = tie.close (tie.spec returns)
