@@ -1,4 +1,4 @@
--- Each answer's line as the code makes it. Assumes nothing.
+-- Each answer's line as the code makes it.
 use Prim.Native.Nat.{ℕ}
 use Prim.Native.String.{String}
 use mathlib.Core.Path.{◌≡◌, refl, ap}

@@ -1,6 +1,6 @@
 -- Every answer is one line: its line feed is its last byte, and it has no other. A step's answer has at most 60 bytes, the
--- settings' at most 89. Assumes nothing.
-use Prim.Native.Nat.{ℕ, suc, ◌+◌, ◌≤◌}
+-- settings' at most 89.
+use Prim.Native.Nat.{ℕ, suc, ◌≤◌}
 use Prim.Native.String.{String}
 use native.Mathlib.Omega.{arith}
 use mathlib.Core.Path.{◌≡◌, refl}
@@ -12,7 +12,7 @@ use borrow.Author.Tests.{ne_eqb}
 use Rattle.words.specs.Tests.{◌=?◌}
 use Rattle.words.specs.Lists.{text, every}
 use Rattle.words.specs.Said.{Said, number}
-use Rattle.words.specs.Said.Said.{refusal, gives}
+use Rattle.words.specs.Said.Said.{gives}
 use Rattle.words.proofs.Booleans.{both_hold, whether}
 use Rattle.words.proofs.Walks.{every_append}
 use Rattle.decimals.specs.Decimals.{is_digit, digits, digits_in}
