@@ -1,4 +1,4 @@
--- The starred lines hold: every row computes to what is written. Assumes nothing.
+-- The starred lines hold: every row computes to what is written.
 use mathlib.Core.Path.{refl}
 use Rattle.words.specs.Lists.{every, some, count_where}
 use Rattle.words.specs.Said.{number, first}

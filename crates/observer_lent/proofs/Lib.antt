@@ -1,4 +1,2 @@
--- What the walks of the lent layer share.
-mod Record
-mod Lent
-mod Setter
+-- What the stores into the lent record leave of it.
+mod Stored

@@ -15,12 +15,14 @@ use observer::Stepped;
 use observer_rules::{Observer, ObserverEvent};
 use settings::Settings;
 
+#[tactic(auto, unfolding(observer_rules::specs::Observer::store))]
 fn store_deadline(o: &mut Observer, deadline: u64)
     ensures { o.new ≡ store (Store.deadline deadline) o.old }
 {
     o.deadline = deadline;
 }
 
+#[tactic(auto, unfolding(observer_rules::specs::Observer::store))]
 fn store_latest(o: &mut Observer, latest: u64)
     ensures { o.new ≡ store (Store.latest latest) o.old }
 {
@@ -35,6 +37,7 @@ fn set_last_reading(o: &mut Observer, reading: u64)
 
 // The first stores, as many as are told: the deadline, then latest. Whatever the count, the record is what the first so many
 // leave: a cut returns between the two.
+#[tactic(auto, using(crate::proofs::Stored::none_done, crate::proofs::Stored::one_done, crate::proofs::Stored::both_done))]
 fn store_first(o: &mut Observer, count: u64, deadline: u64, latest: u64)
     ensures { o.new ≡ store_all (take count (in_order deadline latest)) o.old }
 {
@@ -56,7 +59,7 @@ pub fn step_lent(
     reading: u64,
     event: ObserverEvent,
 ) -> Answer
-    ensures { (said result leaving (λ x. x.now) o.exit) ≡ step_of s o.old x reading event }
+    ensures { (said result leaving o.new) ≡ step_of s o.old x reading event }
 {
     let plan = observer::plan_of(s, *o, x, reading, event);
     if plan.refused {
