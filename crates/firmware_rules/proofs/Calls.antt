@@ -1,19 +1,18 @@
 -- What a call is, by its buffer: one of another size is refused, and one of the right size is left to the step, which judges the
 -- settings itself. Assumes nothing.
 use Prim.Native.Nat.{ℕ}
-use mathlib.Core.Path.{◌≡◌, refl, sym, ap, ◌∙◌}
+use mathlib.Core.Path.{◌≡◌, refl, sym, ◌∙◌}
 use mathlib.Core.Bool.{Bool, true, false, not}
-use mathlib.Core.List.{List, [], ◌∷◌, ◌++◌}
+use mathlib.Core.List.{List, [], ◌∷◌}
 use lib.ListN.{length}
 use borrow.Author.Tests.{eqb-true, eqb-false, eq-eqb, ne_eqb}
 use Rattle.words.specs.Tests.{if◌then◌else◌, ◌=?◌}
 use Rattle.words.specs.Lists.{every}
-use Rattle.words.specs.Said.{Refusal, first, ◌when◌}
+use Rattle.words.specs.Said.{first, ◌when◌}
 use Rattle.words.proofs.Said.{first_stays, first_goes_on}
 use Rattle.settings.specs.declared.Settings.{Settings}
 use Rattle.settings.specs.Settings.{refusals, refusal_of}
-use Rattle.messages.specs.Answers.{refuses, is_refusal}
-use Rattle.messages.specs.Outcomes.{Outcome, ◌leaving◌}
+use Rattle.messages.specs.Answers.{is_refusal}
 use Rattle.messages.proofs.Outcomes.{is_refused}
 use Rattle.recorder_rules.specs.declared.Recorder.{Recorder}
 use Rattle.recorder_rules.specs.declared.RecorderEvent.{RecorderEvent}

@@ -5,7 +5,6 @@ use native.Mathlib.Omega.{arith}
 use mathlib.Core.Path.{◌≡◌, sym, ap, ◌∙◌}
 use mathlib.Core.Logic.{◌⊎◌, inl, inr}
 use mathlib.Core.Bool.{Bool, false}
-use mathlib.Core.List.{List}
 use lib.ListN.{get_or, set, get_or-map}
 use borrow.Author.Tests.{ltb-true, ltb-false, lt-leb}
 use Rattle.words.specs.Tests.{◌<?◌, ◌≤?◌}

@@ -9,7 +9,6 @@ use mathlib.Core.List.{List, [], ◌∷◌, ◌++◌}
 use lib.ListN.{length, get_or, set, length-append, get_or-append}
 use lib.Seq.{get_or-drop, get_or-append_seam}
 use Rattle.words.specs.Tests.{if◌then◌else◌, ◌<?◌}
-use Rattle.words.specs.Said.{number}
 use Rattle.words.proofs.Booleans.{whether}
 use Rattle.words.proofs.Walks.{after_store}
 use Rattle.settings.specs.declared.Settings.{Settings}
