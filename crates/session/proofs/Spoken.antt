@@ -1,4 +1,4 @@
--- Whatever a line's step answers is one of the answers: a refusal, a message, or one of their words. Assumes nothing.
+-- Whatever a line's step answers is one of the answers: a refusal, a message, or one of their words.
 use mathlib.Core.Path.{◌≡◌, refl}
 use Rattle.words.specs.Said.{Said}
 use Rattle.messages.specs.declared.Message.TheVariants.{LeaseRequest, LeaseGrant, Check, CheckAck}

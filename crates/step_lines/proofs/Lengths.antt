@@ -1,9 +1,9 @@
 -- How long a line of the forms is at least: a settings line 23 bytes, of which 14 are needed here, a step line 9. Assumes
 -- nothing.
-use Prim.Native.Nat.{ℕ, zero, suc, ◌+◌, ◌-◌, ◌*◌, ◌≤◌, ◌<◌}
+use Prim.Native.Nat.{ℕ, zero, suc, ◌+◌, ◌*◌, ◌≤◌, ◌<◌}
 use native.Mathlib.Omega.{arith}
 use mathlib.Core.Path.{◌≡◌, refl, sym, ap, ◌∙◌}
-use mathlib.Core.Bool.{true, false, ◌&&◌, true≢false}
+use mathlib.Core.Bool.{true, ◌&&◌, true≢false}
 use mathlib.Core.List.{List}
 use lib.ListN.{length, drop, length-append, length-drop}
 use borrow.Author.Tests.{eqb-true}

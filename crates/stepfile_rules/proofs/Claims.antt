@@ -1,4 +1,4 @@
--- Each answer is one line, so each line gets one. Assumes nothing.
+-- Each answer is one line, so each line gets one.
 use Prim.Native.Nat.{ℕ, suc}
 use mathlib.Core.Path.{◌≡◌, refl, ap, ◌∙◌}
 use mathlib.Core.Bool.{Bool, true, false}

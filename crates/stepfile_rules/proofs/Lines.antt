@@ -1,4 +1,4 @@
--- Lines: where one ends, and that all of them together are the file. Assumes nothing.
+-- Lines: where one ends, and that all of them together are the file.
 use Prim.Native.Nat.{ℕ, suc, ◌+◌, ◌≤◌, ◌<◌}
 use native.Mathlib.Nat.{not-suc-le-zero}
 use native.Mathlib.Numerals.{add-one}

@@ -1,4 +1,4 @@
--- The loop over the step lines: what has been written so far, and what is still to come, are the answers. Assumes nothing.
+-- The loop over the step lines: what has been written so far, and what is still to come, are the answers.
 use Prim.Native.Nat.{ℕ, zero, suc, ◌+◌, ◌-◌, ◌*◌, ◌≤◌, ◌<◌}
 use native.Mathlib.Omega.{arith}
 use native.Mathlib.Nat.{le_refl}

@@ -2,7 +2,7 @@
 use Rattle.std.specs.Prelude.{ℕ, ◌*◌, List, [], ◌∷◌, ◌++◌, length, drop}
 use Rattle.words.specs.Tests.{if◌then◌else◌, ◌<?◌, ◌=?◌}
 use Rattle.words.specs.Said.{Said, refused}
-use Rattle.words.specs.Said.Said.{refusal, gives}
+use Rattle.words.specs.Said.Said.{gives}
 use Rattle.settings.specs.Settings.{refusal_of}
 use Rattle.messages.specs.Answers.{refuses}
 use Rattle.step_lines.specs.declared.SettingsLine.{SettingsLine}

@@ -1,0 +1,16 @@
+-- The row of one, or bad.
+use Rattle.step_lines.specs.Reading.{cut_numbers}
+use Rattle.step_lines.proofs.cut_numbers.Goals as goal
+
+pub returns-then-is_closed_by : goal.returns-then-is_closed_by
+unfolding cut_numbers
+returns-then-is_closed_by c =
+    rw (
+      ← c.row_of-row.ensures,
+      ← c.is_closed_by.ensures,
+      c.if-is_closed_by.true,
+    )
+
+pub returns-else-is_closed_by : goal.returns-else-is_closed_by
+unfolding cut_numbers
+returns-else-is_closed_by c = rw (← c.row_of-row.ensures, ← c.is_closed_by.ensures, c.if-is_closed_by.false)

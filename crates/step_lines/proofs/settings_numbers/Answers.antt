@@ -1,0 +1,17 @@
+-- The row of seven, or bad.
+use Rattle.step_lines.specs.Reading.{settings_numbers}
+use Rattle.step_lines.proofs.settings_numbers.Goals as goal
+
+pub returns-then-is_closed_by : goal.returns-then-is_closed_by
+unfolding settings_numbers
+returns-then-is_closed_by c =
+    rw (
+      ← c.row_of-row.ensures,
+      ← c.is_closed_by.ensures,
+      c.if-is_closed_by.true,
+      c.settings_of.ensures,
+    )
+
+pub returns-else-is_closed_by : goal.returns-else-is_closed_by
+unfolding settings_numbers
+returns-else-is_closed_by c = rw (← c.row_of-row.ensures, ← c.is_closed_by.ensures, c.if-is_closed_by.false)

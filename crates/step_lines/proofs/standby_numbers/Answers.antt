@@ -1,0 +1,16 @@
+-- The reading, or bad.
+use Rattle.step_lines.specs.Reading.{standby_numbers}
+use Rattle.step_lines.proofs.standby_numbers.Goals as goal
+
+pub returns-then-row : goal.returns-then-row
+unfolding standby_numbers
+returns-then-row c =
+    rw (
+      ← c.row_of-row.ensures,
+      c.if-row.true,
+      ← c.part_from.ensures,
+    ) c.standby_event.ensures
+
+pub returns-else-row : goal.returns-else-row
+unfolding standby_numbers
+returns-else-row c = rw (← c.row_of-row.ensures, c.if-row.false)
