@@ -1,4 +1,5 @@
 -- Each answer's line as the code makes it.
+use Rattle.std.specs.Prelude.{if◌then◌else◌}
 use Prim.Native.Nat.{ℕ}
 use Prim.Native.String.{String}
 use mathlib.Core.Path.{◌≡◌, refl, ap}
@@ -10,7 +11,7 @@ use Rattle.words.specs.Lists.{text}
 use Rattle.words.specs.Said.{Said, number, refused}
 use Rattle.words.specs.Said.Said.{refusal, gives}
 use Rattle.decimals.specs.Decimals.{digits, digits_in}
-use Rattle.words.specs.Tests.{if◌then◌else◌, ◌=?◌}
+use Rattle.words.specs.Tests.{◌=?◌}
 use Rattle.words.proofs.Booleans.{neither_holds}
 use Rattle.settings.specs.declared.Settings.{Settings}
 use Rattle.settings.specs.Settings.{slack_a, slack_b, slack_c, negative, refusal_of, window}

@@ -1,4 +1,5 @@
 -- Laws of reading numbers: what a turn of the reader does, and that reading and writing undo one another.
+use Rattle.std.specs.Prelude.{if◌then◌else◌}
 use Prim.Native.Nat.{ℕ, zero, suc, ◌+◌, ◌-◌, ◌*◌, ◌/◌, ◌%◌, ◌^◌, ◌≤◌, ◌<◌}
 use native.Mathlib.Numerals.{add-one}
 use native.Mathlib.Omega.{arith}
@@ -9,7 +10,7 @@ use lib.Dec.{leb}
 use lib.ListN.{length, get_or, drop, length-append}
 use lib.Seq.{drop-append_seam}
 use borrow.Author.Tests.{le-ltb, leb-true, eq-eqb, ltb-false, le-leb, ne_eqb, eqb-true, eqb-false}
-use Rattle.words.specs.Tests.{if◌then◌else◌, ◌<?◌, ◌=?◌}
+use Rattle.words.specs.Tests.{◌<?◌, ◌=?◌}
 use Rattle.words.proofs.Booleans.{not_both, both_hold, neither_holds}
 use Rattle.decimals.specs.declared.Number.TheVariants.{Value, Bad}
 use Rattle.decimals.specs.Decimals.{is_digit, digits_in, digits, read_on, number_at}
@@ -20,8 +21,8 @@ use Rattle.decimals.proofs.Digits.{by_size, tenth, one_digit, last_digit, digits
 pub first_byte : (allowed : Bool) (greatest : ℕ) (s : List ℕ)
     → number_at allowed greatest s
     ≡ (if not (is_digit (get_or s 0 0)) then Bad 0
-    else if ((get_or s 0 0 - 48 =? 0) && not allowed) || (greatest <? get_or s 0 0 - 48) then Bad 0
-    else read_on greatest (get_or s 0 0 - 48) 1 (drop 1 s))
+    else (if ((get_or s 0 0 - 48 =? 0) && not allowed) || (greatest <? get_or s 0 0 - 48) then Bad 0
+    else read_on greatest (get_or s 0 0 - 48) 1 (drop 1 s)))
 unfolding number_at
 first_byte allowed greatest [] = refl
 first_byte allowed greatest (byte ∷ bytes) = refl
@@ -29,8 +30,8 @@ first_byte allowed greatest (byte ∷ bytes) = refl
 pub next_byte : (greatest value i : ℕ) (s : List ℕ) (at : ℕ)
     → read_on greatest value i (drop at s)
     ≡ (if not (is_digit (get_or s at 0)) then Value value i
-    else if (value =? 0) || (greatest <? value * 10 + (get_or s at 0 - 48)) then Bad i
-    else read_on greatest (value * 10 + (get_or s at 0 - 48)) (i + 1) (drop (at + 1) s))
+    else (if (value =? 0) || (greatest <? value * 10 + (get_or s at 0 - 48)) then Bad i
+    else read_on greatest (value * 10 + (get_or s at 0 - 48)) (i + 1) (drop (at + 1) s)))
 unfolding read_on
 next_byte greatest value i [] zero = refl
 next_byte greatest value i [] (suc at) = refl
@@ -154,7 +155,7 @@ going greatest n k b (byte ∷ bytes) value i done d c m e =
     (going greatest n k b bytes (value * 10 + (byte - 48)) (i + 1) (done ++ (byte ∷ [])))
   where
     by : (a : Bool) → is_digit byte ≡ a → (t : Bool) → ((value =? 0) || (greatest <? value * 10 + (byte - 48))) ≡ t
-        → (if not a then Value value i else if t then Bad i else read_on greatest (value * 10 + (byte - 48)) (i + 1) bytes) ≡ Value
+        → (if not a then Value value i else (if t then Bad i else read_on greatest (value * 10 + (byte - 48)) (i + 1) bytes)) ≡ Value
         n k
         → (done ++ (byte ∷ []) ≡ digits (value * 10 + (byte - 48)) → i + 1 ≡ length (done ++ (byte ∷ []))
         → value * 10 + (byte - 48) ≤ greatest
@@ -192,7 +193,7 @@ read_digits allowed greatest (byte ∷ bytes) n k b e =
     allows false e z = absurd (not_both (rw (eq-eqb (byte - 48) 0 z)) e)
 
     by : (a : Bool) → is_digit byte ≡ a → (t : Bool) → (((byte - 48 =? 0) && not allowed) || (greatest <? byte - 48)) ≡ t
-        → (if not a then Bad 0 else if t then Bad 0 else read_on greatest (byte - 48) 1 bytes) ≡ Value n k
+        → (if not a then Bad 0 else (if t then Bad 0 else read_on greatest (byte - 48) 1 bytes)) ≡ Value n k
         → IsNumber allowed greatest (byte ∷ bytes) n k
     by false p t q e = no_value e
     by true p true q e = no_value e

@@ -1,6 +1,6 @@
 -- Rule 6.1: decimals.
-use Rattle.std.specs.Prelude.{ℕ, zero, suc, ◌+◌, ◌-◌, ◌*◌, ◌/◌, ◌%◌, Bool, ◌&&◌, ◌||◌, not, List, [], ◌∷◌, ◌++◌}
-use Rattle.words.specs.Tests.{if◌then◌else◌, ◌<?◌, ◌≤?◌, ◌=?◌}
+use Rattle.std.specs.Prelude.{ℕ, zero, suc, ◌+◌, ◌-◌, ◌*◌, ◌/◌, ◌%◌, Bool, ◌&&◌, ◌||◌, not, List, [], ◌∷◌, ◌++◌, if◌then◌else◌}
+use Rattle.words.specs.Tests.{◌<?◌, ◌≤?◌, ◌=?◌}
 use Rattle.decimals.specs.declared.Number.{Number}
 use Rattle.decimals.specs.declared.Number.TheVariants.{Value, Bad}
 
@@ -22,8 +22,8 @@ unfoldable pub read_on : (greatest value i : ℕ) → List ℕ → Number
 read_on greatest value i [] = Value value i
 read_on greatest value i (byte ∷ bytes) =
     if not (is_digit byte) then Value value i
-    else if (value =? 0) || (greatest <? value * 10 + (byte - 48)) then Bad i
-    else read_on greatest (value * 10 + (byte - 48)) (i + 1) bytes
+    else (if (value =? 0) || (greatest <? value * 10 + (byte - 48)) then Bad i
+    else read_on greatest (value * 10 + (byte - 48)) (i + 1) bytes)
 
 -- The number at the front of a list: its value and its count of digits, or the place of the first byte at which no number
 -- of the form, at most `greatest` and (unless `allowed`) not 0, could go on.
@@ -31,5 +31,5 @@ unfoldable pub number_at : (allowed : Bool) (greatest : ℕ) → List ℕ → Nu
 number_at allowed greatest [] = Bad 0
 number_at allowed greatest (byte ∷ bytes) =
     if not (is_digit byte) then Bad 0
-    else if ((byte - 48 =? 0) && not allowed) || (greatest <? byte - 48) then Bad 0
-    else read_on greatest (byte - 48) 1 bytes
+    else (if ((byte - 48 =? 0) && not allowed) || (greatest <? byte - 48) then Bad 0
+    else read_on greatest (byte - 48) 1 bytes)

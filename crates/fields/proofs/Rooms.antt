@@ -1,4 +1,5 @@
 -- Laws of room that is written to, and of words at the front. Assumes nothing.
+use Rattle.std.specs.Prelude.{if◌then◌else◌}
 use Prim.Native.Nat.{ℕ, zero, suc, ◌+◌, ◌-◌, ◌≤◌, ◌<◌}
 use native.Mathlib.Nat.{not-suc-le-zero, le_of_suc-le-suc}
 use native.Mathlib.Numerals.{add-one}
@@ -10,7 +11,7 @@ use lib.ListN.{length, take, drop, get_or, set, length-append, length-take, leng
 use borrow.Rule.Slice.PartMut.{put_mid}
 use lib.Seq.{drop-cons, set-append_seam, length-take-le, paste-zero, take_all, take-append_seam, drop-append-add, drop-drop}
 use borrow.Author.Tests.{le-leb, lt-leb, leb-true, eqb-true}
-use Rattle.words.specs.Tests.{if◌then◌else◌, ◌≤?◌, ◌=?◌}
+use Rattle.words.specs.Tests.{◌≤?◌, ◌=?◌}
 use Rattle.fields.specs.Places.{put_at, next_place, agree, begins}
 
 -- the part of a slice from n on, as code makes it

@@ -1,6 +1,6 @@
 -- Bytes at a place of lent room, and words at the front of a slice.
-use Rattle.std.specs.Prelude.{ℕ, suc, ◌+◌, List, [], ◌∷◌, ◌++◌, Bool, ◌&&◌, length, take, drop}
-use Rattle.words.specs.Tests.{if◌then◌else◌, ◌≤?◌, ◌=?◌}
+use Rattle.std.specs.Prelude.{ℕ, suc, ◌+◌, List, [], ◌∷◌, ◌++◌, Bool, ◌&&◌, length, take, drop, if◌then◌else◌}
+use Rattle.words.specs.Tests.{◌≤?◌, ◌=?◌}
 
 -- The room with the bytes written from `at` on; as it was, where they do not fit.
 unfoldable pub put_at : (room : List ℕ) (at : ℕ) (bytes : List ℕ) → List ℕ

@@ -2,8 +2,8 @@
 // What a call returns and leaves stands in `firmware_rules`; the header for C is include/recorder.h.
 #![tactic(auto)]
 
-ghost use Rattle.std.specs.Prelude.{◌≡◌, length};
-ghost use Rattle.words.specs.Tests.{if◌then◌else◌, ◌=?◌};
+ghost use Rattle.std.specs.Prelude.{◌≡◌, length, if◌then◌else◌};
+ghost use Rattle.words.specs.Tests.{◌=?◌};
 ghost use Rattle.settings.specs.Settings.{settings_of, refusal_of};
 ghost use Rattle.messages.specs.Answers.{said, speaks, words_of};
 ghost use Rattle.recorder_rules.specs.declared.RecorderEvent.TheVariants.{Tick, Grant, Drive};

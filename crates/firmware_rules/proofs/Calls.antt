@@ -1,12 +1,13 @@
 -- What a call is, by its buffer: one of another size is refused, and one of the right size is left to the step, which judges the
 -- settings itself. Assumes nothing.
+use Rattle.std.specs.Prelude.{if◌then◌else◌}
 use Prim.Native.Nat.{ℕ}
 use mathlib.Core.Path.{◌≡◌, refl, sym, ◌∙◌}
 use mathlib.Core.Bool.{Bool, true, false, not}
 use mathlib.Core.List.{List, [], ◌∷◌}
 use lib.ListN.{length}
 use borrow.Author.Tests.{eqb-true, eqb-false, eq-eqb, ne_eqb}
-use Rattle.words.specs.Tests.{if◌then◌else◌, ◌=?◌}
+use Rattle.words.specs.Tests.{◌=?◌}
 use Rattle.words.specs.Lists.{every}
 use Rattle.words.specs.Said.{first, ◌when◌}
 use Rattle.words.proofs.Said.{first_stays, first_goes_on}

@@ -1,6 +1,6 @@
 -- What a C call returns and what it leaves in the buffer, for every buffer.
-use Rattle.std.specs.Prelude.{ℕ, not, List, [], ◌∷◌, ◌++◌, length}
-use Rattle.words.specs.Tests.{if◌then◌else◌, ◌=?◌}
+use Rattle.std.specs.Prelude.{ℕ, not, List, [], ◌∷◌, ◌++◌, length, if◌then◌else◌}
+use Rattle.words.specs.Tests.{◌=?◌}
 use Rattle.words.specs.Lists.{text}
 use Rattle.words.specs.Said.{Said, Refusal, first, ◌when◌}
 use Rattle.words.specs.Said.Said.{refusal, gives}
@@ -32,8 +32,8 @@ unfoldable pub code_of_given : Sending → (word : List ℕ) → ℕ
 code_of_given (message m) w = 103
 code_of_given nothing w =
     if is_exactly (text "unregistered") w then 100
-    else if is_exactly (text "running") w then 101
-    else 102
+    else (if is_exactly (text "running") w then 101
+    else 102)
 
 unfoldable pub code_of : Said Spoken → ℕ
 code_of (refusal k values) = k

@@ -1,4 +1,5 @@
 -- How long lines are: at most 44 bytes, and one has as many.
+use Rattle.std.specs.Prelude.{if◌then◌else◌}
 use Prim.Native.Nat.{ℕ, ◌≤◌}
 use native.Mathlib.Omega.{arith}
 use mathlib.Core.Path.{◌≡◌, refl, ap, ◌∙◌}
@@ -6,7 +7,7 @@ use mathlib.Core.Bool.{Bool, true, false, ◌&&◌, not}
 use mathlib.Core.List.{List, [], ◌∷◌, ◌++◌}
 use lib.ListN.{length, length-append}
 use borrow.Author.Tests.{leb-true, ltb-true}
-use Rattle.words.specs.Tests.{if◌then◌else◌, ◌<?◌, ◌≤?◌}
+use Rattle.words.specs.Tests.{◌<?◌, ◌≤?◌}
 use Rattle.words.specs.Lists.{text}
 use Rattle.words.specs.Said.{refused}
 use Rattle.words.specs.Said.Said.{gives}
@@ -58,7 +59,7 @@ unfolding write_said fitting
 longest_line_is_enough_lem m room h e = by (has_form m) refl (length room <? length (line_of m)) refl e
   where
     by : (f : Bool) → has_form m ≡ f → (t : Bool) → (length room <? length (line_of m)) ≡ t
-        → (if not f then refused 9 else if t then refused 10 else gives (length (line_of m))) ≡ refused 10 → ⊥
+        → (if not f then refused 9 else (if t then refused 10 else gives (length (line_of m)))) ≡ refused 10 → ⊥
     by true f true t e = omega (arith, line_most m f, ltb-true (length room) (length (line_of m)) t)
     by true f false t e = let z : ◌≡◌ {A = ℕ} 0 1 = cc in omega arith
     by false f t q e = let z : ◌≡◌ {A = ℕ} 9 10 = cc in omega arith

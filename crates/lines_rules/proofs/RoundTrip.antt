@@ -1,4 +1,5 @@
 -- Reading and writing message lines undo one another.
+use Rattle.std.specs.Prelude.{if◌then◌else◌}
 use Prim.Native.Nat.{ℕ, zero, suc, ◌^◌, ◌≤◌, ◌<◌}
 use native.Mathlib.Omega.{arith}
 use mathlib.Core.Path.{◌≡◌, refl, sym, ap, ◌∙◌}
@@ -7,7 +8,7 @@ use mathlib.Core.List.{List, [], ◌∷◌, ◌++◌, append_assoc, append-nil}
 use lib.ListN.{length, drop, drop_of_length-le}
 use lib.Seq.{take-append_seam, drop-append_seam}
 use borrow.Author.Tests.{le-leb, leb-true, eqb-true}
-use Rattle.words.specs.Tests.{if◌then◌else◌, ◌<?◌, ◌≤?◌, ◌=?◌}
+use Rattle.words.specs.Tests.{◌<?◌, ◌≤?◌, ◌=?◌}
 use Rattle.words.specs.Lists.{text}
 use Rattle.words.proofs.Booleans.{not_both, both_hold}
 use Rattle.words.specs.Said.{refused}
@@ -156,7 +157,7 @@ ack_status ts cnt s m r c e =
     told status q same = rw (← same, q, le-leb ts top_reading r, le-leb cnt top_counter c) (refl, refl)
 
     by : (a : Bool) → is_exactly (text "\tAlive\n") s ≡ a → (d : Bool) → is_exactly (text "\tDead\n") s ≡ d
-        → (if a then gives (CheckAck ts cnt Alive) else if d then gives (CheckAck ts cnt Dead) else refused 9) ≡ gives m
+        → (if a then gives (CheckAck ts cnt Alive) else (if d then gives (CheckAck ts cnt Dead) else refused 9)) ≡ gives m
         → (has_form m ≡ true) × (text "CHECK-ACK\t" ++ (digits ts ++ (9 ∷ (digits cnt ++ s))) ≡ line_of m)
     by true p d q e = told Alive (exactly (text "\tAlive\n") s p) (gift e)
     by false p true q e = told Dead (exactly (text "\tDead\n") s q) (gift e)
@@ -205,10 +206,10 @@ read_formed s m e =
         → begins (text "CHECK\t") s ≡ c
         → (a : Bool) → begins (text "CHECK-ACK\t") s ≡ a
         → (if r then one_of LeaseRequest (only_number false top_counter (drop 14 s))
-        else if g then one_of LeaseGrant (only_number false top_counter (drop 12 s))
-        else if c then one_of Check (only_number true top_reading (drop 6 s))
-        else if a then read_ack (drop 10 s)
-        else refused 9)
+        else (if g then one_of LeaseGrant (only_number false top_counter (drop 12 s))
+        else (if c then one_of Check (only_number true top_reading (drop 6 s))
+        else (if a then read_ack (drop 10 s)
+        else refused 9))))
         ≡ gives m
         → Formed s m
     by true p g q c u a v e =
@@ -229,7 +230,7 @@ unfolding write_said write_room fitting filled
 written m room k e = by (has_form m) refl (length room <? length (line_of m)) refl e
   where
     by : (f : Bool) → has_form m ≡ f → (t : Bool) → (length room <? length (line_of m)) ≡ t
-        → (if not f then refused 9 else if t then refused 10 else gives (length (line_of m))) ≡ gives k
+        → (if not f then refused 9 else (if t then refused 10 else gives (length (line_of m)))) ≡ gives k
         → (has_form m ≡ true) × (k ≡ length (line_of m)) × (write_room m room ≡ line_of m ++ drop (length (line_of m)) room)
     by true f true t e = no_gift e
     by true f false t e = (f, sym (gift e), rw (f, t))

@@ -1,7 +1,6 @@
 -- Reading a message line (rule 6.5). A field's reader gets what the line holds from
 -- there on.
-use Rattle.std.specs.Prelude.{ℕ, Bool, true, false, List, drop}
-use Rattle.words.specs.Tests.{if◌then◌else◌}
+use Rattle.std.specs.Prelude.{ℕ, Bool, true, false, List, drop, if◌then◌else◌}
 use Rattle.words.specs.Lists.{text}
 use Rattle.words.specs.Said.{Said, refused}
 use Rattle.words.specs.Said.Said.{gives}
@@ -31,8 +30,8 @@ one_of make (Bad place) = refused 9
 unfoldable pub read_ack_status : (ts cnt : ℕ) → List ℕ → Said Message
 read_ack_status ts cnt s =
     if is_exactly (text "\tAlive\n") s then gives (CheckAck ts cnt Alive)
-    else if is_exactly (text "\tDead\n") s then gives (CheckAck ts cnt Dead)
-    else refused 9
+    else (if is_exactly (text "\tDead\n") s then gives (CheckAck ts cnt Dead)
+    else refused 9)
 
 -- from the counter's tab on
 unfoldable pub status_behind : (ts : ℕ) → List ℕ → Number → Said Message
@@ -55,7 +54,7 @@ read_ack s = counter_behind s (number_at true top_reading s)
 unfoldable pub read_line : List ℕ → Said Message
 read_line s =
     if begins (text "LEASE-REQUEST\t") s then one_of LeaseRequest (only_number false top_counter (drop 14 s))
-    else if begins (text "LEASE-GRANT\t") s then one_of LeaseGrant (only_number false top_counter (drop 12 s))
-    else if begins (text "CHECK\t") s then one_of Check (only_number true top_reading (drop 6 s))
-    else if begins (text "CHECK-ACK\t") s then read_ack (drop 10 s)
-    else refused 9
+    else (if begins (text "LEASE-GRANT\t") s then one_of LeaseGrant (only_number false top_counter (drop 12 s))
+    else (if begins (text "CHECK\t") s then one_of Check (only_number true top_reading (drop 6 s))
+    else (if begins (text "CHECK-ACK\t") s then read_ack (drop 10 s)
+    else refused 9)))

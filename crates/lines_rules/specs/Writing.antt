@@ -1,6 +1,6 @@
 -- Writing a message line (rules 6.1 to 6.4): words and numbers, parted by one tab, ended by one line feed.
-use Rattle.std.specs.Prelude.{ℕ, not, List, [], ◌∷◌, ◌++◌, map, length, drop}
-use Rattle.words.specs.Tests.{if◌then◌else◌, ◌<?◌}
+use Rattle.std.specs.Prelude.{ℕ, not, List, [], ◌∷◌, ◌++◌, map, length, drop, if◌then◌else◌}
+use Rattle.words.specs.Tests.{◌<?◌}
 use Rattle.words.specs.Lists.{text}
 use Rattle.words.specs.Said.{Said, refused}
 use Rattle.words.specs.Said.Said.{gives}

@@ -1,11 +1,12 @@
 -- Answers are told apart by number, words and values: the answer can be found again from them. Assumes nothing.
+use Rattle.std.specs.Prelude.{if◌then◌else◌}
 use Prim.Native.Nat.{ℕ}
 use Prim.Native.String.{String}
 use mathlib.Core.Bool.{Bool, true, false, ◌&&◌}
 use mathlib.Core.List.{List, [], ◌∷◌}
 use mathlib.Core.Path.{◌≡◌, refl, sym, ap, ap₂, ◌∙◌}
 use borrow.Author.Tests.{eqb-false}
-use Rattle.words.specs.Tests.{if◌then◌else◌, ◌=?◌}
+use Rattle.words.specs.Tests.{◌=?◌}
 use Rattle.words.specs.Lists.{text}
 use Rattle.words.specs.Said.{Said, number as number_of}
 use Rattle.words.specs.Said.Said.{refusal, gives}
@@ -47,19 +48,19 @@ back : ℕ → List Field → Answer
 back k [] = Refused k
 back k (field ∷ fields) =
     if is field "LEASE-REQUEST" then Send (LeaseRequest (value fields))
-    else if is field "LEASE-GRANT" then Send (LeaseGrant (value fields))
-    else if is field "CHECK" then Send (Check (value fields))
-    else if is field "CHECK-ACK" then Send (CheckAck (value fields) (value (rest fields)) (status (rest (rest fields))))
-    else if is field "unregistered" then Say Unregistered
-    else if is field "running" then Say Running
-    else if is field "stopped" then Say Stopped
-    else if is field "silent" then Say Silent
-    else if is field "cut" then Say Cut
-    else if is field "waiting" then Say Waiting
-    else if is field "late" then Say Late
-    else if is field "unknown" then Say Unknown
-    else if is field "dead" then Say (Dead (value fields))
-    else Say (Alive (value fields))
+    else (if is field "LEASE-GRANT" then Send (LeaseGrant (value fields))
+    else (if is field "CHECK" then Send (Check (value fields))
+    else (if is field "CHECK-ACK" then Send (CheckAck (value fields) (value (rest fields)) (status (rest (rest fields))))
+    else (if is field "unregistered" then Say Unregistered
+    else (if is field "running" then Say Running
+    else (if is field "stopped" then Say Stopped
+    else (if is field "silent" then Say Silent
+    else (if is field "cut" then Say Cut
+    else (if is field "waiting" then Say Waiting
+    else (if is field "late" then Say Late
+    else (if is field "unknown" then Say Unknown
+    else (if is field "dead" then Say (Dead (value fields))
+    else Say (Alive (value fields))))))))))))))
 
 found : (a : Answer) → back (number_of (said a)) (spoken_fields (said a)) ≡ a
 unfolding back said words_of spoken_fields sent_fields fields_of status_word number_of same is value rest status

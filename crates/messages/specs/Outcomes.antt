@@ -1,6 +1,6 @@
 -- What a step leaves: what its answer says, and the record.
-use Rattle.std.specs.Prelude.{ℕ, Bool, ◌||◌, List}
-use Rattle.words.specs.Tests.{if◌then◌else◌, ◌<?◌, ◌=?◌}
+use Rattle.std.specs.Prelude.{ℕ, Bool, ◌||◌, List, if◌then◌else◌}
+use Rattle.words.specs.Tests.{◌<?◌, ◌=?◌}
 use Rattle.words.specs.Said.{Said, Refusal, first}
 use Rattle.messages.specs.Messages.{top_reading}
 use Rattle.messages.specs.Answers.{Spoken, refuses}

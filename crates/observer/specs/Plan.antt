@@ -1,7 +1,7 @@
 -- The plan of a step: what the rules of an observer (4.4 to 4.7) ask of it, before any of it is done. Both forms of the step do
 -- the same plan; that a plan done is the step of the rules is proved in proofs/Doing.antt.
-use Rattle.std.specs.Prelude.{ℕ, ◌+◌, Bool, true, false}
-use Rattle.words.specs.Tests.{if◌then◌else◌, ◌<?◌, ◌=?◌}
+use Rattle.std.specs.Prelude.{ℕ, ◌+◌, Bool, true, false, if◌then◌else◌}
+use Rattle.words.specs.Tests.{◌<?◌, ◌=?◌}
 use Rattle.words.specs.Said.{Said, first}
 use Rattle.settings.specs.declared.Settings.{Settings}
 use Rattle.settings.specs.Settings.{O}

@@ -1,4 +1,5 @@
 -- Laws of the observer's record and steps: the claims of specs/Claims.antt, each by the steps' events. Assumes nothing.
+use Rattle.std.specs.Prelude.{if◌then◌else◌}
 use Prim.Native.Nat.{ℕ, zero, suc, ◌+◌, ◌≤◌, ◌<◌}
 use native.Mathlib.Omega.{arith}
 use mathlib.Core.Path.{◌≡◌, refl, sym}
@@ -7,7 +8,7 @@ use mathlib.Core.List.{[], ◌∷◌}
 use lib.ListN.{take, get_or}
 use lib.Seq.{take-nil, take_all}
 use borrow.Author.Tests.{ltb-true, ltb-false, leb-true, le-leb, le-ltb, ne_eqb}
-use Rattle.words.specs.Tests.{if◌then◌else◌, ◌<?◌, ◌=?◌}
+use Rattle.words.specs.Tests.{◌<?◌, ◌=?◌}
 use Rattle.words.specs.Lists.{every}
 use Rattle.words.specs.Said.{first}
 use Rattle.words.proofs.Booleans.{neither_holds}

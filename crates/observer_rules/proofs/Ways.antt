@@ -1,11 +1,12 @@
 -- The ways that a step of the observer can go: refused, or done, each with its answer and with what it leaves. Assumes nothing.
+use Rattle.std.specs.Prelude.{if◌then◌else◌}
 use Prim.Native.Nat.{ℕ, ◌+◌, ◌≤◌, ◌<◌}
 use native.Mathlib.Omega.{arith}
 use mathlib.Core.Path.{◌≡◌, refl}
 use mathlib.Core.Bool.{Bool, true, false}
 use mathlib.Core.List.{[], ◌∷◌}
 use borrow.Author.Tests.{ltb-true, ltb-false, leb-false, le-leb, not-false}
-use Rattle.words.specs.Tests.{if◌then◌else◌, ◌<?◌}
+use Rattle.words.specs.Tests.{◌<?◌}
 use Rattle.words.specs.Lists.{every}
 use Rattle.words.specs.Said.{first}
 use Rattle.words.proofs.Booleans.{neither_holds}

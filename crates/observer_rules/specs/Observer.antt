@@ -1,7 +1,7 @@
 -- The observer's record, its form, and what each step answers and leaves. The stores of a request are a list, so that a cut
 -- is its first k.
-use Rattle.std.specs.Prelude.{ℕ, ◌+◌, Bool, ◌&&◌, ◌||◌, not, List, [], ◌∷◌, ◌++◌, take}
-use Rattle.words.specs.Tests.{if◌then◌else◌, ◌<?◌, ◌≤?◌, ◌=?◌}
+use Rattle.std.specs.Prelude.{ℕ, ◌+◌, Bool, ◌&&◌, ◌||◌, not, List, [], ◌∷◌, ◌++◌, take, if◌then◌else◌}
+use Rattle.words.specs.Tests.{◌<?◌, ◌≤?◌, ◌=?◌}
 use Rattle.words.specs.Lists.{every}
 use Rattle.words.specs.Said.{Said, Refusal, ◌when◌}
 use Rattle.settings.specs.declared.Settings.{Settings}

@@ -1,4 +1,5 @@
 -- Sets of observers: quorums meet, none is lost as a set grows, and nobody is none. Assumes nothing.
+use Rattle.std.specs.Prelude.{if◌then◌else◌}
 use Prim.Native.Nat.{ℕ, zero, suc, ◌+◌, ◌-◌, ◌<◌, ◌≤◌}
 use native.Mathlib.Omega.{arith}
 use native.Mathlib.Nat.{le_refl, le_trans}
@@ -8,7 +9,7 @@ use mathlib.Core.List.{List, []}
 use lib.ListN.{get_or, take}
 use lib.Seq.{take-nil}
 use borrow.Author.Tests.{leb-true, le-leb, lt-leb, not-true}
-use Rattle.words.specs.Tests.{if◌then◌else◌, ◌≤?◌}
+use Rattle.words.specs.Tests.{◌≤?◌}
 use Rattle.words.specs.Lists.{every, count_where}
 use Rattle.words.proofs.Booleans.{not_both}
 use Rattle.words.proofs.Walks.{count_suc}

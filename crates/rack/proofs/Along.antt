@@ -1,4 +1,5 @@
 -- The invariant holds along every run.
+use Rattle.std.specs.Prelude.{if◌then◌else◌}
 use Prim.Native.Nat.{ℕ, ◌≤◌, ◌<◌, max}
 use native.Mathlib.Omega.{arith}
 use native.Mathlib.Nat.{le_trans, le_refl}
@@ -8,7 +9,7 @@ use mathlib.Core.List.{List, [], ◌∷◌, ◌++◌, append-nil}
 use mathlib.Core.Logic.{inl, inr}
 use lib.ListN.{get_or}
 use borrow.Author.Tests.{leb-true, eq-eqb}
-use Rattle.words.specs.Tests.{if◌then◌else◌, ◌=?◌, ◌≤?◌}
+use Rattle.words.specs.Tests.{◌=?◌, ◌≤?◌}
 use Rattle.words.specs.Lists.{every}
 use Rattle.words.proofs.Booleans.{both_hold, not_both}
 use Rattle.settings.specs.declared.Settings.{Settings}

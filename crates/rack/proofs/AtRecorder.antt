@@ -1,4 +1,5 @@
 -- An event at the recorder keeps the invariant.
+use Rattle.std.specs.Prelude.{if◌then◌else◌}
 use Prim.Native.Nat.{ℕ, ◌+◌, ◌-◌, ◌≤◌, ◌<◌}
 use native.Mathlib.Omega.{arith}
 use native.Mathlib.Nat.{le_trans, le_refl}
@@ -7,7 +8,7 @@ use mathlib.Core.Bool.{Bool, true, false}
 use mathlib.Core.Logic.{inl, ⊎_elim}
 use lib.ListN.{get_or}
 use borrow.Author.Tests.{leb-true, eq-eqb, ne_eqb, eqb-true, eqb-false, ltb-true, ltb-false}
-use Rattle.words.specs.Tests.{if◌then◌else◌, ◌=?◌, ◌<?◌}
+use Rattle.words.specs.Tests.{◌=?◌, ◌<?◌}
 use Rattle.words.specs.Said.{Said}
 use Rattle.settings.specs.declared.Settings.{Settings}
 use Rattle.settings.specs.Settings.{P, rounding, refusal_of}

@@ -1,4 +1,5 @@
 -- What was sent: facts that hold of every message of the history hold of every message that is delivered.
+use Rattle.std.specs.Prelude.{if◌then◌else◌}
 use Prim.Native.Nat.{ℕ, ◌+◌, ◌-◌}
 use native.Mathlib.Omega.{arith}
 use mathlib.Core.Path.{◌≡◌, refl, sym, ap, ◌∙◌}
@@ -6,7 +7,7 @@ use mathlib.Core.Bool.{Bool, true, false, ◌&&◌, ◌||◌}
 use mathlib.Core.List.{List, [], ◌∷◌, ◌++◌}
 use lib.ListN.{get_or}
 use borrow.Author.Tests.{eqb-true, eq-eqb, ne_eqb}
-use Rattle.words.specs.Tests.{if◌then◌else◌, ◌=?◌}
+use Rattle.words.specs.Tests.{◌=?◌}
 use Rattle.words.specs.Lists.{some}
 use Rattle.words.specs.Said.{Said}
 use Rattle.words.specs.Said.Said.{refusal, gives}
@@ -55,7 +56,7 @@ same_key [] = refl
 same_key (k ∷ ks) = rw (eq-eqb k k refl) (same_key ks)
 
 party_of : ℕ → Party
-party_of k = if k =? 0 then recorder else if k =? 1 then standby else observer (k - 2)
+party_of k = if k =? 0 then recorder else (if k =? 1 then standby else observer (k - 2))
 
 party_found : (p : Party) → party_of (party_key p) ≡ p
 unfolding party_of party_key
@@ -71,9 +72,9 @@ status_of k = if k =? 0 then Alive else Dead
 message_of_lem : List ℕ → Message
 message_of_lem ks =
     if get_or ks 0 0 =? 0 then LeaseRequest (get_or ks 1 0)
-    else if get_or ks 0 0 =? 1 then LeaseGrant (get_or ks 1 0)
-    else if get_or ks 0 0 =? 2 then Check (get_or ks 1 0)
-    else CheckAck (get_or ks 1 0) (get_or ks 2 0) (status_of (get_or ks 3 0))
+    else (if get_or ks 0 0 =? 1 then LeaseGrant (get_or ks 1 0)
+    else (if get_or ks 0 0 =? 2 then Check (get_or ks 1 0)
+    else CheckAck (get_or ks 1 0) (get_or ks 2 0) (status_of (get_or ks 3 0))))
 
 message_found : (m : Message) → message_of_lem (message_key m) ≡ m
 unfolding message_of_lem message_key status_key status_of

@@ -1,8 +1,8 @@
 -- Runs: what can happen on a rack. A run is a list of events, the newest first; its state is the parties' records and the
 -- history of what was sent. Messages are delivered from the history and stay in it, so they may be lost, delayed, repeated
 -- and reordered, and none is invented.
-use Rattle.std.specs.Prelude.{ℕ, ◌+◌, Bool, true, false, ◌&&◌, ◌||◌, not, List, [], ◌∷◌}
-use Rattle.words.specs.Tests.{if◌then◌else◌, ◌≤?◌, ◌=?◌}
+use Rattle.std.specs.Prelude.{ℕ, ◌+◌, Bool, true, false, ◌&&◌, ◌||◌, not, List, [], ◌∷◌, if◌then◌else◌}
+use Rattle.words.specs.Tests.{◌≤?◌, ◌=?◌}
 use Rattle.words.specs.Lists.{every, some}
 use Rattle.words.specs.Said.{Said}
 use Rattle.words.specs.Said.Said.{refusal, gives}

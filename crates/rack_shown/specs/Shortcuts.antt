@@ -1,8 +1,8 @@
 -- Shortcuts that look harmless: each is a set of rules that differs from ours in one thing, and a run in which the standby is
 -- told dead and the recorder drives on.
-use Rattle.std.specs.Prelude.{ℕ, ◌+◌, ◌*◌, ◌-◌, false, ◌&&◌, not, List, [], ◌∷◌, reverse, get_or, take}
+use Rattle.std.specs.Prelude.{ℕ, ◌+◌, ◌*◌, ◌-◌, false, ◌&&◌, not, List, [], ◌∷◌, reverse, get_or, take, if◌then◌else◌}
 use Prim.Native.String.{String}
-use Rattle.words.specs.Tests.{if◌then◌else◌, ◌<?◌, ◌=?◌}
+use Rattle.words.specs.Tests.{◌<?◌, ◌=?◌}
 use Rattle.words.specs.Lists.{count_where}
 use Rattle.words.specs.Said.{Said}
 use Rattle.settings.specs.declared.Settings.{Settings}
@@ -156,8 +156,8 @@ by_majority places =
     let dead = count_where (λ place. place.kept && standby.is_dead place.status) places in
     let alive = count_where (λ place. place.kept && not (standby.is_dead place.status)) places in
     if standby.greatest places =? 0 then says "unknown"
-    else if alive <? dead then says_of "dead" (standby.greatest places)
-    else says_of "alive" (standby.greatest places)
+    else (if alive <? dead then says_of "dead" (standby.greatest places)
+    else says_of "alive" (standby.greatest places))
 
 -- the ack that closes a round gives that verdict; else our steps
 unfoldable pub majority_step : Settings → Standby → (r : ℕ) → StandbyEvent → Outcome Standby
@@ -166,9 +166,9 @@ majority_step s q r (ack x ts cnt status) =
     let places = standby.keeping x cnt status q.places in
     unless_refused (standby.ack_refusals s q r x ts cnt) q
     (if standby.is_late (window s) q r then says "late" leaving standby.closed r
-    else if get_or (standby.kept_marks q.places) x false then says "waiting" leaving standby.at_reading r q
-    else if closes s (standby.kept_marks places) then by_majority places leaving standby.closed r
-    else standby.after_keeping s q r places)
+    else (if get_or (standby.kept_marks q.places) x false then says "waiting" leaving standby.at_reading r q
+    else (if closes s (standby.kept_marks places) then by_majority places leaving standby.closed r
+    else standby.after_keeping s q r places)))
 majority_step s q r poll = ours.standby s q r poll
 
 abbrev pub by_majority_of_statuses : Rules

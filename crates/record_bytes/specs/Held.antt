@@ -1,6 +1,6 @@
 -- The record in a buffer of any length. A call refuses a buffer of another size (rule 8.2) before it comes to these.
-use Rattle.std.specs.Prelude.{ℕ, List, length}
-use Rattle.words.specs.Tests.{if◌then◌else◌, ◌=?◌}
+use Rattle.std.specs.Prelude.{ℕ, List, length, if◌then◌else◌}
+use Rattle.words.specs.Tests.{◌=?◌}
 use Rattle.recorder_rules.specs.declared.Recorder.{Recorder}
 use Rattle.recorder_rules.specs.Recorder.{fresh}
 use Rattle.firmware_rules.specs.Bytes.{record_bytes, decoded, encoded}

@@ -1,11 +1,11 @@
 -- What the parts of a step give, put together: a step that is not refused goes by what `advance` gives, and the record at its
 -- event has room for one lease more.
+use Rattle.std.specs.Prelude.{if◌then◌else◌}
 use Prim.Native.Nat.{ℕ}
 use mathlib.Core.Path.{◌≡◌, refl, sym, ap, ◌∙◌}
 use mathlib.Core.Bool.{Bool, true, false, not}
 use mathlib.Core.List.{List}
 use lib.ListN.{length}
-use Rattle.words.specs.Tests.{if◌then◌else◌}
 use Rattle.words.specs.Said.{Refusal, first}
 use Rattle.words.proofs.Booleans.{not_both}
 use Rattle.settings.specs.declared.Settings.{Settings}
@@ -28,8 +28,8 @@ module _ (s : Settings) (rec : Recorder) (r : ℕ) where
   abbrev to : (is_stopped lacks : Bool) → Advanced
   to is_stopped lacks =
       if is_stopped then record { goes_on = false; rec = rec }
-      else if lacks then record { goes_on = false; rec = halted rec r }
-      else record { goes_on = true; rec = advanced s rec r }
+      else (if lacks then record { goes_on = false; rec = halted rec r }
+      else record { goes_on = true; rec = advanced s rec r })
 
   -- the event comes, or *stopped* is said
   by_tests : (event : Recorder → Outcome Recorder)
@@ -40,7 +40,7 @@ module _ (s : Settings) (rec : Recorder) (r : ℕ) where
   by_tests event = by (not (is_zero rec.stopped)) (lacking s rec r)
     where
       by : (is_stopped lacks : Bool)
-          → (if is_stopped then says "stopped" leaving rec else if lacks then says "stopped" leaving halted rec r else event
+          → (if is_stopped then says "stopped" leaving rec else (if lacks then says "stopped" leaving halted rec r else event)
           (advanced s rec r))
           ≡ (if (to is_stopped lacks).goes_on then event (to is_stopped lacks).rec else says "stopped" leaving (to is_stopped
           lacks).rec)

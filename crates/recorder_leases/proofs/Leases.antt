@@ -1,5 +1,6 @@
 -- The open leases, walked by an index i: those that lack grants and those that are kept; and a store at the first free
 -- place.
+use Rattle.std.specs.Prelude.{if◌then◌else◌}
 use Prim.Native.Nat.{ℕ, suc, ◌+◌, ◌-◌, ◌≤◌, ◌<◌}
 use native.Mathlib.Omega.{arith}
 use native.Mathlib.Nat.{add_assoc}
@@ -9,7 +10,6 @@ use mathlib.Core.Bool.{Bool, true, false, ◌||◌, not, or_assoc, or-false}
 use mathlib.Core.List.{List, [], ◌∷◌, ◌++◌, append_assoc, append-nil}
 use lib.ListN.{length, take, drop, get_or, set, replicate, length-append, drop_of_length-le}
 use lib.Seq.{take-suc, set_at}
-use Rattle.words.specs.Tests.{if◌then◌else◌}
 use Rattle.words.proofs.Walks.{next}
 use Rattle.settings.specs.declared.Settings.{Settings}
 use Rattle.quorums.specs.Quorums.{survives}

@@ -1,5 +1,6 @@
 -- What a step that is neither refused nor stops says of the leases, by their numbers: those still open are young, those no
 -- longer open had their grants before the event, and each keeps the reading at which it was sent. Assumes nothing.
+use Rattle.std.specs.Prelude.{if◌then◌else◌}
 use Prim.Native.Nat.{ℕ, ◌+◌, ◌-◌, ◌≤◌, ◌<◌}
 use native.Mathlib.Omega.{arith}
 use mathlib.Core.Path.{◌≡◌, refl, sym, ap, ◌∙◌}
@@ -8,7 +9,7 @@ use mathlib.Core.Bool.{Bool, true, false}
 use mathlib.Core.List.{List, [], ◌∷◌, ◌++◌}
 use lib.ListN.{length, get_or, set, length-append, get_or-append}
 use lib.Seq.{get_or-drop, get_or-append_seam}
-use Rattle.words.specs.Tests.{if◌then◌else◌, ◌<?◌}
+use Rattle.words.specs.Tests.{◌<?◌}
 use Rattle.words.proofs.Booleans.{whether}
 use Rattle.words.proofs.Walks.{after_store}
 use Rattle.settings.specs.declared.Settings.{Settings}

@@ -1,6 +1,6 @@
 -- The recorder's record, its form, and what each step answers and leaves.
-use Rattle.std.specs.Prelude.{ℕ, ◌+◌, ◌-◌, Bool, true, false, ◌&&◌, ◌||◌, not, List, [], ◌∷◌, ◌++◌, map, length, take, drop, get_or, set, replicate}
-use Rattle.words.specs.Tests.{if◌then◌else◌, ◌<?◌, ◌≤?◌, ◌=?◌}
+use Rattle.std.specs.Prelude.{ℕ, ◌+◌, ◌-◌, Bool, true, false, ◌&&◌, ◌||◌, not, List, [], ◌∷◌, ◌++◌, map, length, take, drop, get_or, set, replicate, if◌then◌else◌}
+use Rattle.words.specs.Tests.{◌<?◌, ◌≤?◌, ◌=?◌}
 use Rattle.words.specs.Lists.{every}
 use Rattle.words.specs.Said.{Said, Refusal, ◌when◌}
 use Rattle.settings.specs.declared.Settings.{Settings}
@@ -143,8 +143,8 @@ halted rec r =
 unfoldable pub accepted : Settings → Recorder → (r : ℕ) → (event : Recorder → Outcome Recorder) → Outcome Recorder
 accepted s rec r event =
     if not (is_zero rec.stopped) then says "stopped" leaving rec
-    else if lacking s rec r then says "stopped" leaving halted rec r
-    else event (advanced s rec r)
+    else (if lacking s rec r then says "stopped" leaving halted rec r
+    else event (advanced s rec r))
 
 -- ---- Events
 

@@ -1,6 +1,6 @@
 -- What the settings' answers say: the refusal's number, or 0 and the values W, a, b, c.
-use Rattle.std.specs.Prelude.{ℕ, ℤ}
-use Rattle.words.specs.Tests.{if◌then◌else◌, ◌=?◌}
+use Rattle.std.specs.Prelude.{ℕ, ℤ, if◌then◌else◌}
+use Rattle.words.specs.Tests.{◌=?◌}
 use Rattle.words.specs.Said.{Said, refused}
 use Rattle.words.specs.Said.Said.{gives}
 use Rattle.settings.specs.declared.Settings.{Settings}

@@ -45,7 +45,7 @@ module _ (T : Ended) where
   Says contract Post =
       contract
       ≡ (λ M 𝓤 𝓛 memory run κs args.
-          record { ghost = Unit {0}; requires = λ _. emp 𝓤; ensures = λ _ x s. fact 𝓤 (Post κs args x s) })
+      record { ghost = Unit {0}; requires = λ _. emp 𝓤; ensures = λ _ x s. fact 𝓤 (Post κs args x s) })
 
   -- two outcomes at the same arguments; `Same` is for a result that is not compared whole
   abbrev pub SettledBy :

@@ -1,5 +1,6 @@
 -- What stands behind each verdict: m is the greatest counter kept, dead has an ack that says so with m, and alive has none.
 -- Assumes nothing.
+use Rattle.std.specs.Prelude.{if◌then◌else◌}
 use Prim.Native.Nat.{ℕ, zero, suc, max, ◌+◌, ◌≤◌, ◌<◌}
 use native.Mathlib.Omega.{arith}
 use native.Mathlib.Nat.{le_refl, le_trans}
@@ -8,7 +9,7 @@ use mathlib.Core.Bool.{Bool, true, false, ◌&&◌}
 use mathlib.Core.List.{List, [], ◌∷◌}
 use lib.ListN.{length, drop, get_or, drop_of_length-le}
 use borrow.Author.Tests.{ltb-true, ltb-false, eqb-true, eqb-false, eq-eqb}
-use Rattle.words.specs.Tests.{if◌then◌else◌, ◌<?◌, ◌=?◌}
+use Rattle.words.specs.Tests.{◌<?◌, ◌=?◌}
 use Rattle.words.specs.Lists.{some}
 use Rattle.words.specs.Said.{Said}
 use Rattle.words.proofs.Booleans.{both_hold, not_both, whether}

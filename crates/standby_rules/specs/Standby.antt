@@ -1,6 +1,6 @@
 -- The standby's record, its form, and what each step answers and leaves. The window is a parameter: the public steps set it to W.
-use Rattle.std.specs.Prelude.{ℕ, ◌-◌, Bool, true, false, ◌&&◌, ◌||◌, not, List, [], ◌∷◌, ◌++◌, map, drop, get_or, set, replicate}
-use Rattle.words.specs.Tests.{if◌then◌else◌, ◌<?◌, ◌≤?◌, ◌=?◌}
+use Rattle.std.specs.Prelude.{ℕ, ◌-◌, Bool, true, false, ◌&&◌, ◌||◌, not, List, [], ◌∷◌, ◌++◌, map, drop, get_or, set, replicate, if◌then◌else◌}
+use Rattle.words.specs.Tests.{◌<?◌, ◌≤?◌, ◌=?◌}
 use Rattle.words.specs.Lists.{every, some}
 use Rattle.words.specs.Said.{Said, Refusal, ◌when◌}
 use Rattle.settings.specs.declared.Settings.{Settings}
@@ -122,8 +122,8 @@ says_dead m place = place.kept && is_dead place.status && (place.counter =? m)
 unfoldable pub verdict : List Place → Said Spoken
 verdict places =
     if greatest places =? 0 then says "unknown"
-    else if some (says_dead (greatest places)) places then says_of "dead" (greatest places)
-    else says_of "alive" (greatest places)
+    else (if some (says_dead (greatest places)) places then says_of "dead" (greatest places)
+    else says_of "alive" (greatest places))
 
 -- with a query quorum of acks the round closes
 unfoldable pub after_keeping : Settings → Standby → (r : ℕ) → List Place → Outcome Standby
@@ -135,8 +135,8 @@ after_keeping s q r places =
 unfoldable pub ack_event : (w : ℕ) → Settings → Standby → (r x cnt : ℕ) → Status → Outcome Standby
 ack_event w s q r x cnt status =
     if is_late w q r then says "late" leaving closed r
-    else if get_or (kept_marks q.places) x false then says "waiting" leaving at_reading r q
-    else after_keeping s q r (keeping x cnt status q.places)
+    else (if get_or (kept_marks q.places) x false then says "waiting" leaving at_reading r q
+    else after_keeping s q r (keeping x cnt status q.places))
 
 -- late and closed, by the same test; or the round goes on
 unfoldable pub poll_event : (w : ℕ) → Standby → (r : ℕ) → Outcome Standby

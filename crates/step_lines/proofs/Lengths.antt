@@ -1,5 +1,6 @@
 -- How long a line of the forms is at least: a settings line 23 bytes, of which 14 are needed here, a step line 9. Assumes
 -- nothing.
+use Rattle.std.specs.Prelude.{if◌then◌else◌}
 use Prim.Native.Nat.{ℕ, zero, suc, ◌+◌, ◌*◌, ◌≤◌, ◌<◌}
 use native.Mathlib.Omega.{arith}
 use mathlib.Core.Path.{◌≡◌, refl, sym, ap, ◌∙◌}
@@ -7,7 +8,7 @@ use mathlib.Core.Bool.{true, ◌&&◌, true≢false}
 use mathlib.Core.List.{List}
 use lib.ListN.{length, drop, length-append, length-drop}
 use borrow.Author.Tests.{eqb-true}
-use Rattle.words.specs.Tests.{if◌then◌else◌, ◌=?◌}
+use Rattle.words.specs.Tests.{◌=?◌}
 use Rattle.words.specs.Lists.{text}
 use Rattle.words.proofs.Booleans.{both_hold, whether}
 use Rattle.decimals.specs.declared.Number.{Number}

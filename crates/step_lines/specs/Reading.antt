@@ -1,6 +1,5 @@
 -- The lines of a step file (rules 7.2 and 7.3). What is no line of the forms is bad.
-use Rattle.std.specs.Prelude.{ℕ, Bool, ◌&&◌, List, drop, get_or}
-use Rattle.words.specs.Tests.{if◌then◌else◌}
+use Rattle.std.specs.Prelude.{ℕ, Bool, ◌&&◌, List, drop, get_or, if◌then◌else◌}
 use Rattle.words.specs.Lists.{text}
 use Rattle.fields.specs.Places.{begins, is_exactly}
 use Rattle.messages.specs.declared.Status.TheVariants.{Alive, Dead}
@@ -42,9 +41,9 @@ grant_numbers r s v = if closed_by (text "\n") s v then Recorder r (Grant (at v 
 unfoldable pub recorder_event : (r : ℕ) → List ℕ → StepLine
 recorder_event r s =
     if is_exactly (text "\ttick\n") s then Recorder r Tick
-    else if is_exactly (text "\tdrive\n") s then Recorder r Drive
-    else if begins (text "\tgrant") s then grant_numbers r (drop 6 s) (row (drop 6 s) 2)
-    else Bad
+    else (if is_exactly (text "\tdrive\n") s then Recorder r Drive
+    else (if begins (text "\tgrant") s then grant_numbers r (drop 6 s) (row (drop 6 s) 2)
+    else Bad))
 
 unfoldable pub recorder_numbers : List ℕ → Row → StepLine
 recorder_numbers s v = if v.good then recorder_event (at v 0) (behind_row s v) else Bad
@@ -56,8 +55,8 @@ cut_numbers x r c s v = if closed_by (text "\n") s v then Observer x r (Cut c (a
 unfoldable pub request_end : (x r c : ℕ) → List ℕ → StepLine
 request_end x r c s =
     if is_exactly (text "\n") s then Observer x r (Request c)
-    else if begins (text "\tcut") s then cut_numbers x r c (drop 4 s) (row (drop 4 s) 1)
-    else Bad
+    else (if begins (text "\tcut") s then cut_numbers x r c (drop 4 s) (row (drop 4 s) 1)
+    else Bad)
 
 unfoldable pub request_numbers : (x r : ℕ) → List ℕ → Row → StepLine
 request_numbers x r s v = if v.good then request_end x r (at v 0) (behind_row s v) else Bad
@@ -68,8 +67,8 @@ check_numbers x r s v = if closed_by (text "\n") s v then Observer x r (Check (a
 unfoldable pub observer_event : (x r : ℕ) → List ℕ → StepLine
 observer_event x r s =
     if begins (text "\trequest") s then request_numbers x r (drop 8 s) (row (drop 8 s) 1)
-    else if begins (text "\tcheck") s then check_numbers x r (drop 6 s) (row (drop 6 s) 1)
-    else Bad
+    else (if begins (text "\tcheck") s then check_numbers x r (drop 6 s) (row (drop 6 s) 1)
+    else Bad)
 
 unfoldable pub observer_numbers : List ℕ → Row → StepLine
 observer_numbers s v = if v.good then observer_event (at v 0) (at v 1) (behind_row s v) else Bad
@@ -78,15 +77,15 @@ observer_numbers s v = if v.good then observer_event (at v 0) (at v 1) (behind_r
 unfoldable pub ack_numbers : (r : ℕ) → List ℕ → Row → StepLine
 ack_numbers r s v =
     if closed_by (text "\tAlive\n") s v then Standby r (Ack (at v 0) (at v 1) (at v 2) Alive)
-    else if closed_by (text "\tDead\n") s v then Standby r (Ack (at v 0) (at v 1) (at v 2) Dead)
-    else Bad
+    else (if closed_by (text "\tDead\n") s v then Standby r (Ack (at v 0) (at v 1) (at v 2) Dead)
+    else Bad)
 
 unfoldable pub standby_event : (r : ℕ) → List ℕ → StepLine
 standby_event r s =
     if is_exactly (text "\tbegin\n") s then Standby r Begin
-    else if is_exactly (text "\tpoll\n") s then Standby r Poll
-    else if begins (text "\tack") s then ack_numbers r (drop 4 s) (row (drop 4 s) 3)
-    else Bad
+    else (if is_exactly (text "\tpoll\n") s then Standby r Poll
+    else (if begins (text "\tack") s then ack_numbers r (drop 4 s) (row (drop 4 s) 3)
+    else Bad))
 
 unfoldable pub standby_numbers : List ℕ → Row → StepLine
 standby_numbers s v = if v.good then standby_event (at v 0) (behind_row s v) else Bad
@@ -95,6 +94,6 @@ standby_numbers s v = if v.good then standby_event (at v 0) (behind_row s v) els
 unfoldable pub step_line : List ℕ → StepLine
 step_line s =
     if begins (text "R") s then recorder_numbers (drop 1 s) (row (drop 1 s) 1)
-    else if begins (text "O") s then observer_numbers (drop 1 s) (row (drop 1 s) 2)
-    else if begins (text "Q") s then standby_numbers (drop 1 s) (row (drop 1 s) 1)
-    else Bad
+    else (if begins (text "O") s then observer_numbers (drop 1 s) (row (drop 1 s) 2)
+    else (if begins (text "Q") s then standby_numbers (drop 1 s) (row (drop 1 s) 1)
+    else Bad))

@@ -1,6 +1,5 @@
 -- Numbers in a row, each behind one tab (rule 7.4).
-use Rattle.std.specs.Prelude.{ℕ, zero, suc, ◌+◌, true, false, ◌&&◌, List, drop, set, replicate}
-use Rattle.words.specs.Tests.{if◌then◌else◌}
+use Rattle.std.specs.Prelude.{ℕ, zero, suc, ◌+◌, true, false, ◌&&◌, List, drop, set, replicate, if◌then◌else◌}
 use Rattle.words.specs.Lists.{text}
 use Rattle.decimals.specs.declared.Number.{Number}
 use Rattle.decimals.specs.declared.Number.TheVariants.{Value, Bad}

@@ -1,11 +1,12 @@
 -- Each answer is one line, so each line gets one.
+use Rattle.std.specs.Prelude.{if◌then◌else◌}
 use Prim.Native.Nat.{ℕ, suc}
 use mathlib.Core.Path.{◌≡◌, refl, ap, ◌∙◌}
 use mathlib.Core.Bool.{Bool, true, false}
 use mathlib.Core.List.{List, [], ◌∷◌, ◌++◌, append-nil}
 use lib.ListN.{length}
 use borrow.Author.Tests.{not-true}
-use Rattle.words.specs.Tests.{if◌then◌else◌, ◌<?◌, ◌=?◌}
+use Rattle.words.specs.Tests.{◌<?◌, ◌=?◌}
 use Rattle.words.specs.Lists.{text, every}
 use Rattle.words.proofs.Booleans.{both_hold}
 use Rattle.settings.specs.Settings.{refusal_of}

@@ -1,6 +1,6 @@
 -- What the answers to a file keep, whatever the file.
-use Rattle.std.specs.Prelude.{ℕ, suc, ◌≤◌, Bool, false, List, [], ◌∷◌, ◌≡◌, length}
-use Rattle.words.specs.Tests.{if◌then◌else◌, ◌<?◌, ◌=?◌}
+use Rattle.std.specs.Prelude.{ℕ, suc, ◌≤◌, Bool, false, List, [], ◌∷◌, ◌≡◌, length, if◌then◌else◌}
+use Rattle.words.specs.Tests.{◌<?◌, ◌=?◌}
 use Rattle.settings.specs.Settings.{refusal_of}
 use Rattle.step_lines.specs.declared.SettingsLine.{SettingsLine}
 use Rattle.step_lines.specs.declared.SettingsLine.TheVariants.{Given, Bad}

@@ -1,6 +1,6 @@
 -- The answers to a step file, line by line.
-use Rattle.std.specs.Prelude.{ℕ, ◌*◌, List, [], ◌∷◌, ◌++◌, length, drop}
-use Rattle.words.specs.Tests.{if◌then◌else◌, ◌<?◌, ◌=?◌}
+use Rattle.std.specs.Prelude.{ℕ, ◌*◌, List, [], ◌∷◌, ◌++◌, length, drop, if◌then◌else◌}
+use Rattle.words.specs.Tests.{◌<?◌, ◌=?◌}
 use Rattle.words.specs.Said.{Said, refused}
 use Rattle.words.specs.Said.Said.{gives}
 use Rattle.settings.specs.Settings.{refusal_of}

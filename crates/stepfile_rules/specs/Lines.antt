@@ -1,6 +1,6 @@
 -- The lines of a file. Each ends behind its line feed (10); bytes behind the last one are a line too.
-use Rattle.std.specs.Prelude.{ℕ, List, [], ◌∷◌, ◌++◌}
-use Rattle.words.specs.Tests.{if◌then◌else◌, ◌=?◌}
+use Rattle.std.specs.Prelude.{ℕ, List, [], ◌∷◌, ◌++◌, if◌then◌else◌}
+use Rattle.words.specs.Tests.{◌=?◌}
 
 -- one byte more at the front of the first line
 unfoldable pub onto : ℕ → List (List ℕ) → List (List ℕ)

@@ -1,6 +1,6 @@
 -- What the private parts of `stepfile` are to give. No promise cites any of this.
-use Rattle.std.specs.Prelude.{ℕ, suc, List, [], ◌∷◌}
-use Rattle.words.specs.Tests.{if◌then◌else◌, ◌=?◌}
+use Rattle.std.specs.Prelude.{ℕ, suc, List, [], ◌∷◌, if◌then◌else◌}
+use Rattle.words.specs.Tests.{◌=?◌}
 use Rattle.words.specs.Said.{Said}
 use Rattle.words.specs.Said.Said.{refusal, gives}
 

@@ -1,9 +1,9 @@
 -- `standby::ack_event` meets its contract.
+use Rattle.std.specs.Prelude.{if◌then◌else◌}
 use Prim.Native.Nat.{ℕ}
 use mathlib.Core.Path.{◌≡◌}
 use mathlib.Core.Bool.{Bool, false}
 use lib.ListN.{get_or, get_or-map}
-use Rattle.words.specs.Tests.{if◌then◌else◌}
 use Rattle.settings.specs.declared.Settings.{Settings}
 use Rattle.settings.specs.Settings.{window}
 use Rattle.messages.specs.declared.Status.{Status}
