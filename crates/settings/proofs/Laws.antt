@@ -15,7 +15,7 @@ use Rattle.words.proofs.Booleans.{both_hold, neither_holds}
 use Rattle.words.proofs.Walks.{next}
 use Rattle.words.proofs.Said.{none_applies, told_apart}
 use Rattle.words.specs.Lists.{every}
-use Rattle.words.specs.Said.{Said, first}
+use Rattle.words.specs.Said.{Said}
 use Rattle.words.specs.Said.Said.{refusal, gives}
 use Rattle.settings.specs.declared.Settings.{Settings}
 use Rattle.settings.specs.declared.Range.{Range}

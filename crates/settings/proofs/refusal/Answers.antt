@@ -3,7 +3,7 @@
 use Rattle.std.proofs.Common.{◌≡◌, ◌<◌, ◌^◌, ℤ, Bool, true, ap, sym, ◌∙◌, w64, to_z, of_z}
 use lib.Signed.{mag}
 use Rattle.words.specs.Said.{first}
-use Rattle.settings.specs.Settings.{in_range, slack_a, slack_b, slack_c, negative, refusal_of}
+use Rattle.settings.specs.Settings.{in_range, negative, refusal_of}
 use Rattle.settings.proofs.Signed.{read_back}
 use Rattle.settings.proofs.Laws.{in_range_lem}
 use Rattle.settings.proofs.refusal.Goals as goal
