@@ -1,5 +1,4 @@
 -- What stands behind each verdict: m is the greatest counter kept, dead has an ack that says so with m, and alive has none.
--- Assumes nothing.
 use Prim.Native.Nat.{ℕ, zero, suc, max, ◌+◌, ◌≤◌, ◌<◌}
 use native.Mathlib.Omega.{arith}
 use native.Mathlib.Nat.{le_refl, le_trans}

@@ -1,5 +1,5 @@
--- The loop has copied i bytes: the room is what it was, with them in it. Assumes nothing.
-use Prim.Native.Nat.{ℕ, ◌+◌, ◌-◌}
+-- The loop has copied i bytes: the room is what it was, with them in it.
+use Prim.Native.Nat.{ℕ, ◌+◌}
 use native.Mathlib.Numerals.{add-one}
 use native.Mathlib.Omega.{arith}
 use mathlib.Core.Path.{◌≡◌, refl, sym, ap, ◌∙◌}

@@ -1,6 +1,4 @@
 -- `quorums::count_members` meets its contract. The loop's invariant: the count is that of the marks passed, of those below n.
--- Assumes nothing.
-use Prim.Native.Nat.{◌-◌}
 use native.Mathlib.Omega.{arith}
 use mathlib.Core.Path.{refl, ◌∙◌}
 use mathlib.Core.Bool.{false}

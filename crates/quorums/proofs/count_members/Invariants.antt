@@ -1,5 +1,4 @@
 -- `quorums::count_members` meets its contract. The loop's invariant: the count is that of the marks passed, of those below n.
--- Assumes nothing.
 use Prim.Native.Nat.{◌≤◌, ◌-◌}
 use mathlib.Core.Path.{◌≡◌}
 use lib.ListN.{take}

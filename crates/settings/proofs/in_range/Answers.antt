@@ -1,5 +1,5 @@
 -- `settings::in_range` meets its contract. The loop's invariant: all rows are met exactly if those passed were and those to
--- come are. Assumes nothing.
+-- come are.
 use native.Mathlib.Omega.{arith}
 use mathlib.Core.Path.{refl}
 use Rattle.settings.specs.Settings.{in_range, ranges, values}

@@ -1,5 +1,5 @@
 -- `settings::in_range` meets its contract. The loop's invariant: all rows are met exactly if those passed were and those to
--- come are. Assumes nothing.
+-- come are.
 use Prim.Native.Nat.{◌≤◌, ◌-◌}
 use mathlib.Core.Path.{◌≡◌}
 use mathlib.Core.Bool.{◌&&◌}
