@@ -1,4 +1,5 @@
 -- Laws of `digits`, each proved once over the count of digits.
+use Rattle.std.specs.Prelude.{if◌then◌else◌}
 use Prim.Native.Nat.{ℕ, zero, suc, ◌+◌, ◌/◌, ◌%◌, ◌^◌, ◌≤◌, ◌<◌}
 use native.Mathlib.Nat.{div-lt_iff_lt-mul, pow-suc}
 use native.Mathlib.Omega.{arith}
@@ -61,7 +62,7 @@ count_in (suc places) zero n h = rw (lt-ltb n 10 (omega arith)) (omega arith)
 count_in (suc places) (suc k) n h = by (ltb n 10) (count_in places k (n / 10) (tenth (suc k) n h))
   where
     by : (b : Bool) → length (digits_in places (n / 10)) ≤ suc k
-        → length (Rattle.words.specs.Tests.if◌then◌else◌ b ((48 + n) ∷ []) (digits_in places (n / 10) ++ ((48 + n % 10) ∷ [])))
+        → length (if b then ((48 + n) ∷ []) else (digits_in places (n / 10) ++ ((48 + n % 10) ∷ [])))
         ≤ suc (suc k)
     by true e = omega arith
     by false e = rw (length-append (digits_in places (n / 10)) ((48 + n % 10) ∷ [])) (omega arith)

@@ -1,4 +1,4 @@
--- Laws of room that is written to, and of words at the front. Assumes nothing.
+-- Laws of room that is written to, and of words at the front.
 use Rattle.std.specs.Prelude.{if◌then◌else◌}
 use Prim.Native.Nat.{ℕ, zero, suc, ◌+◌, ◌-◌, ◌≤◌, ◌<◌}
 use native.Mathlib.Nat.{not-suc-le-zero, le_of_suc-le-suc}

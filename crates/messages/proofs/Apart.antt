@@ -1,4 +1,4 @@
--- Answers are told apart by number, words and values: the answer can be found again from them. Assumes nothing.
+-- Answers are told apart by number, words and values: the answer can be found again from them.
 use Rattle.std.specs.Prelude.{if◌then◌else◌}
 use Prim.Native.Nat.{ℕ}
 use Prim.Native.String.{String}

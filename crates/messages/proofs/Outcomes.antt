@@ -1,5 +1,4 @@
 -- A step's table of refusals: a refused step hands its record back, and one that is not refused leaves what it should.
--- Assumes nothing.
 use Prim.Native.Nat.{ℕ}
 use native.Mathlib.Omega.{arith}
 use mathlib.Core.Path.{◌≡◌, sym, ap, ◌∙◌}

@@ -1,4 +1,4 @@
--- What an observer can answer. Assumes nothing.
+-- What an observer can answer.
 use Prim.Native.Nat.{ℕ}
 use Rattle.words.specs.Said.{Said}
 use Rattle.settings.specs.declared.Settings.{Settings}

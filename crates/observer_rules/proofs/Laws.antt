@@ -1,4 +1,4 @@
--- Laws of the observer's record and steps: the claims of specs/Claims.antt, each by the steps' events. Assumes nothing.
+-- Laws of the observer's record and steps: the claims of specs/Claims.antt, each by the steps' events.
 use Rattle.std.specs.Prelude.{if◌then◌else◌}
 use Prim.Native.Nat.{ℕ, zero, suc, ◌+◌, ◌≤◌, ◌<◌}
 use native.Mathlib.Omega.{arith}

@@ -1,4 +1,4 @@
--- The ways that a step of the observer can go: refused, or done, each with its answer and with what it leaves. Assumes nothing.
+-- The ways that a step of the observer can go: refused, or done, each with its answer and with what it leaves.
 use Rattle.std.specs.Prelude.{if◌then◌else◌}
 use Prim.Native.Nat.{ℕ, ◌+◌, ◌≤◌, ◌<◌}
 use native.Mathlib.Omega.{arith}

@@ -1,4 +1,4 @@
--- Sets of observers: quorums meet, none is lost as a set grows, and nobody is none. Assumes nothing.
+-- Sets of observers: quorums meet, none is lost as a set grows, and nobody is none.
 use Rattle.std.specs.Prelude.{if◌then◌else◌}
 use Prim.Native.Nat.{ℕ, zero, suc, ◌+◌, ◌-◌, ◌<◌, ◌≤◌}
 use native.Mathlib.Omega.{arith}

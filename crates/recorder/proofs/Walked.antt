@@ -40,8 +40,8 @@ module _ (s : Settings) (rec : Recorder) (r : ℕ) where
   by_tests event = by (not (is_zero rec.stopped)) (lacking s rec r)
     where
       by : (is_stopped lacks : Bool)
-          → (if is_stopped then says "stopped" leaving rec else (if lacks then says "stopped" leaving halted rec r else event)
-          (advanced s rec r))
+          → (if is_stopped then says "stopped" leaving rec else (if lacks then says "stopped" leaving halted rec r else event
+          (advanced s rec r)))
           ≡ (if (to is_stopped lacks).goes_on then event (to is_stopped lacks).rec else says "stopped" leaving (to is_stopped
           lacks).rec)
       by true lacks = refl

@@ -1,4 +1,4 @@
--- Differences of two numbers as integers: their sign, their sums, and their 64 bits. Assumes nothing.
+-- Differences of two numbers as integers: their sign, their sums, and their 64 bits.
 use Prim.Native.Nat.{ℕ, zero, suc, ◌+◌, ◌-◌, ◌<◌, ◌^◌}
 use native.Mathlib.Nat.{add-zero}
 use native.Mathlib.Omega.{arith}

@@ -211,6 +211,7 @@ pub fn round_window(s: Settings) -> u64
 }
 
 // The settings' answer: accepted with W and the slacks, or refused.
+#[tactic(auto, unfolding(crate::specs::Answers::said_of, crate::specs::Answers::judged))]
 pub fn judge(s: Settings) -> Judged
     ensures { said_of result ≡ judged s }
 {

@@ -1,4 +1,4 @@
--- What a standby can answer, within any window. Assumes nothing.
+-- What a standby can answer, within any window.
 use Prim.Native.Nat.{ℕ}
 use Rattle.words.specs.Said.{Said}
 use Rattle.settings.specs.declared.Settings.{Settings}

@@ -1,5 +1,4 @@
--- The form: what it says, that every step keeps it, and that it leaves a closed round nothing but its last reading. Assumes
--- nothing.
+-- The form: what it says, that every step keeps it, and that it leaves a closed round nothing but its last reading.
 use Prim.Native.Nat.{ℕ, ◌≤◌, ◌<◌}
 use native.Mathlib.Omega.{arith}
 use native.Mathlib.Nat.{le_refl, le_trans}

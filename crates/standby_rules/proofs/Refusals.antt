@@ -1,4 +1,4 @@
--- What it says that a step of the standby was not refused, and the ways that an ack or a poll can go. Assumes nothing.
+-- What it says that a step of the standby was not refused, and the ways that an ack or a poll can go.
 use Prim.Native.Nat.{ℕ, ◌≤◌, ◌<◌}
 use mathlib.Core.Path.{◌≡◌, refl}
 use mathlib.Core.Bool.{true, false, ◌||◌, not}

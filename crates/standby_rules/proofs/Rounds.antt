@@ -1,5 +1,5 @@
 -- Where *dead* comes from: an ack of the open round, within the window, that makes up a query quorum. And what is kept stays
--- while the round goes on. Assumes nothing.
+-- while the round goes on.
 use Prim.Native.Nat.{ℕ, ◌-◌, ◌≤◌}
 use mathlib.Core.Path.{◌≡◌, refl, sym, ◌∙◌}
 use mathlib.Core.Bool.{true, false, not}

@@ -1,5 +1,4 @@
 -- What stands behind each verdict: m is the greatest counter kept, dead has an ack that says so with m, and alive has none.
--- Assumes nothing.
 use Rattle.std.specs.Prelude.{if◌then◌else◌}
 use Prim.Native.Nat.{ℕ, zero, suc, max, ◌+◌, ◌≤◌, ◌<◌}
 use native.Mathlib.Omega.{arith}

@@ -1,4 +1,4 @@
--- The ways that a step of the standby can go, within any window, each with its answer and with what it leaves. Assumes nothing.
+-- The ways that a step of the standby can go, within any window, each with its answer and with what it leaves.
 use Prim.Native.Nat.{ℕ, ◌-◌, ◌≤◌, ◌<◌}
 use mathlib.Core.Path.{◌≡◌, refl, sym, ◌∙◌}
 use mathlib.Core.Bool.{true, false}

@@ -1,5 +1,4 @@
--- The loop has passed i bytes that agree: what the two have in common is i and what they have in common from there on. Assumes
--- nothing.
+-- The loop has passed i bytes that agree: what the two have in common is i and what they have in common from there on.
 use native.Mathlib.Omega.{arith}
 use native.Mathlib.Nat.{zero-add}
 use mathlib.Core.Path.{sym}

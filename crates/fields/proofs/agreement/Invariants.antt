@@ -1,5 +1,4 @@
--- The loop has passed i bytes that agree: what the two have in common is i and what they have in common from there on. Assumes
--- nothing.
+-- The loop has passed i bytes that agree: what the two have in common is i and what they have in common from there on.
 use Prim.Native.Nat.{◌+◌, ◌-◌, ◌≤◌}
 use mathlib.Core.Path.{◌≡◌}
 use lib.ListN.{length, drop}

@@ -1,4 +1,4 @@
--- The word stands there and nothing follows. Assumes nothing.
+-- The word stands there and nothing follows.
 use Rattle.fields.specs.Places.{is_exactly}
 use Rattle.fields.proofs.is_exactly.Goals as goal
 

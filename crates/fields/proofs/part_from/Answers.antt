@@ -1,4 +1,4 @@
--- The part from a place on is what `drop` leaves; past the end that is nothing. Assumes nothing.
+-- The part from a place on is what `drop` leaves; past the end that is nothing.
 use native.Mathlib.Nat.{le_refl, le_of_lt}
 use mathlib.Core.Path.{sym, ◌∙◌}
 use lib.ListN.{length, drop_of_length-le}

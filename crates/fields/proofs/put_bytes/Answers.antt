@@ -1,4 +1,4 @@
--- The loop has copied i bytes: the room is what it was, with them in it. Assumes nothing.
+-- The loop has copied i bytes: the room is what it was, with them in it.
 use Prim.Native.Nat.{ℕ, ◌+◌}
 use native.Mathlib.Numerals.{add-one}
 use native.Mathlib.Omega.{arith}

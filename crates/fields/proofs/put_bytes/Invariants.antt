@@ -1,4 +1,4 @@
--- The loop has copied i bytes: the room is what it was, with them in it. Assumes nothing.
+-- The loop has copied i bytes: the room is what it was, with them in it.
 use Prim.Native.Nat.{◌-◌, ◌≤◌}
 use mathlib.Core.Path.{◌≡◌}
 use lib.ListN.{length}

@@ -1,4 +1,4 @@
--- All of the word agrees. Assumes nothing.
+-- All of the word agrees.
 use Rattle.fields.specs.Places.{begins}
 use Rattle.fields.proofs.starts.Goals as goal
 

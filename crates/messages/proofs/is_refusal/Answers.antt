@@ -1,4 +1,4 @@
--- `messages::is_refusal` meets its contract: only a refusal is one. Assumes nothing.
+-- `messages::is_refusal` meets its contract: only a refusal is one.
 use Rattle.messages.specs.Answers.{said, is_refusal}
 use Rattle.messages.proofs.is_refusal.Goals as goal
 

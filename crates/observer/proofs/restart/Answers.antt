@@ -1,4 +1,4 @@
--- `observer::restart` meets its contract. Assumes nothing.
+-- `observer::restart` meets its contract.
 use Rattle.observer_rules.specs.Observer.{restart_of}
 use Rattle.observer.proofs.restart.Goals as goal
 

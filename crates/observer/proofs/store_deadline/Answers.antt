@@ -1,4 +1,4 @@
--- `observer::store_deadline` meets its contract. Assumes nothing.
+-- `observer::store_deadline` meets its contract.
 use mathlib.Core.Path.{refl}
 use Rattle.observer_rules.specs.Observer.{store}
 use Rattle.observer.proofs.store_deadline.Goals as goal

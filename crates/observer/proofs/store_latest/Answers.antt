@@ -1,4 +1,4 @@
--- `observer::store_latest` meets its contract. Assumes nothing.
+-- `observer::store_latest` meets its contract.
 use mathlib.Core.Path.{refl}
 use Rattle.observer_rules.specs.Observer.{store}
 use Rattle.observer.proofs.store_latest.Goals as goal

@@ -1,4 +1,4 @@
--- `quorums::contains_query_quorum` meets its contract: more than n - t are n - t + 1 at least. Assumes nothing.
+-- `quorums::contains_query_quorum` meets its contract: more than n - t are n - t + 1 at least.
 use native.Mathlib.Numerals.{add-one}
 use Rattle.quorums.specs.Quorums.{closes}
 use Rattle.quorums.proofs.contains_query_quorum.Goals as goal

@@ -1,4 +1,4 @@
--- `quorums::contains_survival_quorum` meets its contract. Assumes nothing.
+-- `quorums::contains_survival_quorum` meets its contract.
 use Rattle.quorums.specs.Quorums.{survives}
 use Rattle.quorums.proofs.contains_survival_quorum.Goals as goal
 

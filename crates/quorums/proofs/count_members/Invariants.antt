@@ -1,6 +1,5 @@
 -- `quorums::count_members` meets its contract. The loop's invariant: the count is that of the marks passed, of those below n.
--- Assumes nothing.
-use Prim.Native.Nat.{◌≤◌, ◌-◌}
+use Prim.Native.Nat.{◌≤◌}
 use mathlib.Core.Path.{◌≡◌}
 use lib.ListN.{take}
 use Rattle.words.specs.Lists.{count_where}
@@ -8,7 +7,4 @@ use Rattle.settings.specs.Settings.{n}
 use Rattle.quorums.proofs.count_members.Given as goal
 
 abbrev pub invariant-loop-i : goal.invariant-loop-i
-invariant-loop-i l = (l.i ≤ 16) × (l.count ≤ l.i) × (l.count ≡ count_where (λ mark. mark) (take l.i (take (n l.s) l.set)))
-
-abbrev pub decreases-loop-i : goal.decreases-loop-i
-decreases-loop-i l = 16 - l.i
+invariant-loop-i l = (l.count ≤ l.i) × (l.count ≡ count_where (λ mark. mark) (take l.i (take (n l.s) l.set)))

@@ -1,4 +1,4 @@
--- `quorums::quorums_grow` meets its contract: the theorem. Assumes nothing.
+-- `quorums::quorums_grow` meets its contract: the theorem.
 use Rattle.quorums.proofs.Quorums.{quorums_grow_lem}
 use Rattle.quorums.proofs.quorums_grow.Goals as goal
 

@@ -1,4 +1,4 @@
--- `quorums::quorums_meet` meets its contract: the theorem. Assumes nothing.
+-- `quorums::quorums_meet` meets its contract: the theorem.
 use Rattle.quorums.proofs.Quorums.{quorums_meet_lem}
 use Rattle.quorums.proofs.quorums_meet.Goals as goal
 

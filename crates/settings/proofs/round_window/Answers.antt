@@ -1,4 +1,4 @@
--- `settings::round_window` meets its contract: rounding is taken away three times. Assumes nothing.
+-- `settings::round_window` meets its contract: rounding is taken away three times.
 use Prim.Native.Nat.{ℕ, ◌-◌, ◌*◌}
 use native.Mathlib.Omega.{arith}
 use mathlib.Core.Path.{◌≡◌}

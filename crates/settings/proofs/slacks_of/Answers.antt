@@ -1,4 +1,4 @@
--- `settings::slacks_of` meets its contract. Assumes nothing.
+-- `settings::slacks_of` meets its contract.
 use mathlib.Core.Path.{◌≡◌, sym, ◌∙◌}
 use mathlib.Core.Bool.{true}
 use Rattle.settings.specs.Settings.{in_range}

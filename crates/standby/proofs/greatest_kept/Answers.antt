@@ -6,17 +6,13 @@ use Rattle.standby_rules.proofs.Verdicts.{greatest_more, greatest_done}
 use Rattle.standby.proofs.greatest_kept.Goals as goal
 use Rattle.standby.proofs.greatest_kept.Goals.{else-place-m, then-place-m}
 
-pub loop-i-init : goal.loop-i-init
-loop-i-init c = (omega arith, omega arith)
-
 pub loop-i-preserved : goal.loop-i-preserved
 loop-i-preserved c =
-    let places = c.args.places in
-    let more = greatest_more places c.loop-i.i c.loop-i.m (omega arith) in (
-      omega arith,
-      elim c.if-place-m.branch [ then-place-m w ↦ c.loop-i.invariant.1 ∙ rw w.if-place-m.true at more ∙ rw w.m-is | else-place-m w ↦ c.loop-i.invariant.1 ∙ rw w.if-place-m.false at more ∙ rw w.m-is ],
-    )
+    let more = greatest_more c.args.places c.loop-i.i c.loop-i.m (omega arith) in
+    elim c.if-place-m.branch [
+      | then-place-m w ↦ c.loop-i.invariant ∙ rw w.if-place-m.true at more ∙ rw w.m-is
+      | else-place-m w ↦ c.loop-i.invariant ∙ rw w.if-place-m.false at more ∙ rw w.m-is
+    ]
 
 pub returns : goal.returns
-returns c =
-    sym (c.loop-i.invariant.1 ∙ greatest_done c.args.places c.loop-i.i c.loop-i.m (omega arith))
+returns c = sym (c.loop-i.invariant ∙ greatest_done c.args.places c.loop-i.i c.loop-i.m (omega arith))

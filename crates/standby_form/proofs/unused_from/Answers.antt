@@ -5,9 +5,6 @@ use Rattle.words.proofs.Walks.{every_more, every_done}
 use Rattle.standby_rules.specs.Standby.{unused, is_unused}
 use Rattle.standby_form.proofs.unused_from.Goals as goal
 
-pub is_unused-ok-requires : goal.is_unused-ok-requires
-is_unused-ok-requires c = tt
-
 pub loop-i-preserved : goal.loop-i-preserved
 loop-i-preserved c =
     let places = c.args.places in

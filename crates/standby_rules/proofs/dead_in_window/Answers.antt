@@ -1,4 +1,4 @@
--- `standby_rules::dead_in_window` meets its contract: the theorem. Assumes nothing.
+-- `standby_rules::dead_in_window` meets its contract: the theorem.
 use Rattle.standby_rules.proofs.Rounds.{dead_in_window_lem}
 use Rattle.standby_rules.proofs.dead_in_window.Goals as goal
 

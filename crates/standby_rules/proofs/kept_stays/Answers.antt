@@ -1,4 +1,4 @@
--- `standby_rules::kept_stays` meets its contract: the theorem. Assumes nothing.
+-- `standby_rules::kept_stays` meets its contract: the theorem.
 use Rattle.standby_rules.proofs.Rounds.{kept_stays_lem}
 use Rattle.standby_rules.proofs.kept_stays.Goals as goal
 

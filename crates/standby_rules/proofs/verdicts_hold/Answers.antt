@@ -1,4 +1,4 @@
--- `standby_rules::verdicts_hold` meets its contract: the theorem. Assumes nothing.
+-- `standby_rules::verdicts_hold` meets its contract: the theorem.
 use Rattle.standby_rules.proofs.Verdicts.{verdicts_hold_lem}
 use Rattle.standby_rules.proofs.verdicts_hold.Goals as goal
 
