@@ -1,4 +1,4 @@
--- Answers that say the same are the same. Assumes nothing.
+-- Answers that say the same are the same.
 use Prim.Native.Nat.{ℕ}
 use mathlib.Core.Path.{◌≡◌, refl}
 use Rattle.words.specs.Said.{Said}

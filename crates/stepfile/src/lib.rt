@@ -117,7 +117,8 @@ fn answer_lines_of(input: &[u8], out: &mut [u8]) -> usize
     match first {
         SettingsLine::Given(s) => {
             let at = length_of(write_settings_answer(s, out));
-            if refusal(s) == 0 {
+            let accepted = refusal(s) == 0;
+            if accepted {
                 answer_steps(input, count, s, out, at)
             } else {
                 at
