@@ -11,7 +11,7 @@ use prog.Routine.{Routine}
 use contract.Monad.{Fun, fact}
 use contract.Lifetimes.{Lfts}
 use denote.Triple.Entry.{Args, Res}
-use denote.Triple.Clauses.{Ended, Clauses, Lasts, AtExit, at_exit}
+use denote.Triple.Clauses.{Ended, Clauses, ClausesAt, Lasts, AtExit, at_exit}
 
 -- T is the function's signature, with what its contract sees of each parameter at exit.
 module _ (T : Ended) where
@@ -40,12 +40,13 @@ module _ (T : Ended) where
   abbrev pub Contract : Type 2
   Contract = (M : Type 1) (𝓤 : Ura M) → Logic 𝓤 → (Memory → SProp 𝓤) → (Routine → Fun 𝓤) → Clauses 𝓤 T
 
+  -- the clauses that require nothing, and ensure just this fact of the result and of the parameters at exit
+  abbrev pub just : {M : Type 1} (𝓤 : Ura M) {κs : Lifetimes} → (Returned κs → AtExit T κs → Type 0) → ClausesAt 𝓤 T κs
+  just 𝓤 Fact = record { ghost = Unit {0}; requires = λ _. emp 𝓤; ensures = λ _ x s. fact 𝓤 (Fact x s) }
+
   -- the contract requires nothing, and ensures just that the outcome is allowed
   abbrev pub Says : Contract → Allowed → Type 2
-  Says contract Post =
-      contract
-      ≡ (λ M 𝓤 𝓛 memory run κs args.
-      record { ghost = Unit {0}; requires = λ _. emp 𝓤; ensures = λ _ x s. fact 𝓤 (Post κs args x s) })
+  Says contract Post = contract ≡ (λ M 𝓤 𝓛 memory run κs args. just 𝓤 (Post κs args))
 
   -- two outcomes at the same arguments; `Same` is for a result that is not compared whole
   abbrev pub SettledBy :
