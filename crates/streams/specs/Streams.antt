@@ -1,6 +1,5 @@
--- How much was read, and that it is the whole of the input.
-use Rattle.std.specs.Prelude.{ℕ, ◌<◌, List, ⊤, length, take, Option}
-use Rattle.std.specs.Io.KnownBytes.{Consumes, IsAtEnd}
+-- How much was read.
+use Rattle.std.specs.Prelude.{ℕ}
 use Rattle.streams.specs.declared.Input.{Input}
 use Rattle.streams.specs.declared.Input.TheVariants.{Read, Failed}
 
@@ -8,8 +7,3 @@ use Rattle.streams.specs.declared.Input.TheVariants.{Read, Failed}
 abbrev pub bytes_read : Input → ℕ
 bytes_read (Read count) = count
 bytes_read Failed = 0
-
--- the front of the room holds the next bytes of what the reader had, all of them unless the room is full
-abbrev pub ReadsWhole : Option (List ℕ) → Option (List ℕ) → List ℕ → Input → Type 0
-ReadsWhole had has room (Read count) = Consumes had has (take count room) × (count < length room → IsAtEnd has)
-ReadsWhole had has room Failed = ⊤

@@ -7,7 +7,8 @@
 ghost use Rattle.std.specs.Prelude.{◌≤◌, length};
 ghost use Rattle.std.specs.Bool.{OnTrue};
 ghost use Rattle.std.specs.Io.KnownBytes.{Appends};
-ghost use Rattle.streams.specs.Streams.{ReadsWhole, bytes_read};
+ghost use Rattle.streams.specs.Parts.{ReadsWhole};
+ghost use Rattle.streams.specs.Streams.{bytes_read};
 
 use std::io::{Read, Write};
 
