@@ -45,7 +45,6 @@ pub record OneLine (most : ℕ) (line : List ℕ) : Type 0 where
   pub short : length line ≤ most
 
 digits_plain : (ds : List ℕ) → every is_digit ds ≡ true → Plain ds
-unfolding every
 digits_plain [] e = refl
 digits_plain (d ∷ ds) e =
     let p = both_hold (is_digit d) (every is_digit ds) e in
@@ -59,7 +58,6 @@ also : (xs ys : List ℕ) → Plain xs → Plain ys → Plain (xs ++ ys)
 also = every_append is_plain
 
 tabbed : (xs ys : List ℕ) → Plain xs → Plain ys → Plain (xs ++ text "\t" ++ ys)
-unfolding every
 tabbed xs ys p q = also (xs ++ text "\t") ys (also xs (text "\t") p refl) q
 
 one_number_lem : (front : List ℕ) (n : ℕ) → Plain front → length front ≤ 16 → OneLine 60 (one_number front n)
@@ -97,7 +95,7 @@ word w p l =
 
 -- a step's answer
 pub answer_line_lem : (a : Answer) → OneLine 60 (answer_line (said a))
-unfolding said words_of every
+unfolding said words_of
 answer_line_lem (Refused k) = rw (refusal_line k) (one_number_lem [] k refl (omega arith))
 answer_line_lem (Send (LeaseRequest c)) = rw (request_line c) (one_number_lem (text "0\tLEASE-REQUEST\t") c refl (omega arith))
 answer_line_lem (Send (LeaseGrant c)) = rw (grant_line c) (one_number_lem (text "0\tLEASE-GRANT\t") c refl (omega arith))
@@ -120,7 +118,7 @@ answer_line_lem (Say (SaysAlive m)) = rw (value_line "alive" m) (one_number_lem 
 -- ---- the settings' answer
 
 signed_plain : (z : ℤ) → Plain (signed z)
-unfolding signed every
+unfolding signed
 signed_plain (pos n) = number_plain n
 signed_plain (negsuc n) = number_plain (suc n)
 
@@ -130,14 +128,13 @@ signed_most (pos n) = let d = digits_twenty n in omega arith
 signed_most (negsuc n) = let d = digits_twenty (suc n) in omega arith
 
 refused_line : (k : ℕ) → OneLine 89 (joined (digits k ∷ []))
-unfolding joined every
+unfolding joined
 refused_line k =
     let l = one_number_lem [] k refl (omega arith) in
     record { front = l.front; plain = l.plain; is = l.is; short = let d = l.short in omega arith }
 
 -- the 0 with its tab
 zeroed : (xs : List ℕ) → Plain xs → Plain (text "0\t" ++ xs)
-unfolding every
 zeroed xs p = also (text "0\t") xs refl p
 
 values_line_lem : (v : Values) → OneLine 89 (joined (digits 0 ∷ value_fields (gives v)))

@@ -72,12 +72,11 @@ unfolding digits
 digits_most k n h = count_in 20 k n h
 
 one_is_digit : (d : ℕ) → d < 10 → every is_digit ((48 + d) ∷ []) ≡ true
-unfolding every
 one_is_digit d h = rw (le-leb 48 (48 + d) (omega arith), le-leb (48 + d) 57 (omega arith))
 
 -- never more than 20, and every one of them is a digit
 all_digits : (places n : ℕ) → (length (digits_in places n) ≤ places) × (every is_digit (digits_in places n) ≡ true)
-unfolding digits_in every
+unfolding digits_in
 all_digits zero n = (omega arith, refl)
 all_digits (suc places) n =
     let before = all_digits places (n / 10) in

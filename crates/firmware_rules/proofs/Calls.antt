@@ -25,7 +25,7 @@ use Rattle.firmware_rules.specs.Calls.{code_of, call_refusals, left_by, called}
 -- every table begins with the settings' lines
 refused_first : (s : Settings) (rec : Recorder) (r : ℕ) (event : RecorderEvent) → (refusal_of s ≡ 0 → ⊥)
     → refusal_of s ≡ first (refusals_of s rec r event)
-unfolding refusal_of every
+unfolding refusal_of
 refused_first s rec r Tick h = first_stays (refusals s) _ refl refl h
 refused_first s rec r (Grant x j) h =
     let shorter = first_stays (refusals s) _ refl refl h in
@@ -41,7 +41,7 @@ module _ (s : Settings) (bytes : List ℕ) (r : ℕ) (event : RecorderEvent) whe
       rw (is_refused (refusals_of s (decoded bytes) r event) (decoded bytes) _ (λ none. h (same ∙ none))) (rw (← same) refl)
 
   pub full_size : length bytes ≡ record_bytes → called s bytes r event ≡ left_by bytes (step_of s (decoded bytes) r event)
-  unfolding called refusal_of every first
+  unfolding called refusal_of first
   full_size e = by (refusal_of s =? 0) refl
     where
       by : (b : Bool) → (refusal_of s =? 0) ≡ b → called s bytes r event ≡ left_by bytes (step_of s (decoded bytes) r event)
@@ -57,7 +57,7 @@ module _ (s : Settings) (bytes : List ℕ) (r : ℕ) (event : RecorderEvent) whe
 
   pub other_size : (length bytes ≡ record_bytes → ⊥)
       → called s bytes r event ≡ record { code = (if refusal_of s =? 0 then 10 else refusal_of s); bytes = bytes }
-  unfolding called refusal_of every first
+  unfolding called refusal_of first
   other_size h = by (refusal_of s =? 0) refl
     where
       by : (b : Bool) → (refusal_of s =? 0) ≡ b

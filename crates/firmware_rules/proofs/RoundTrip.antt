@@ -26,7 +26,7 @@ high : (byte rest : ℕ) → byte < 256 → (byte + 256 * rest) / 256 ≡ rest
 high byte rest h = omega arith
 
 bytes_back : (bytes : List ℕ) → every is_byte bytes ≡ true → bytes_in (length bytes) (word_of bytes) ≡ bytes
-unfolding bytes_in word_of every
+unfolding bytes_in word_of
 bytes_back [] e = refl
 bytes_back (byte ∷ bytes) e =
     let p = both_hold (is_byte byte) (every is_byte bytes) e in
@@ -44,7 +44,6 @@ word_back (suc count) w h =
 -- ---- many words
 
 every_take : (test : ℕ → Bool) (k : ℕ) (xs : List ℕ) → every test xs ≡ true → every test (take k xs) ≡ true
-unfolding every
 every_take test zero xs e = refl
 every_take test (suc k) [] e = refl
 every_take test (suc k) (x ∷ xs) e = let p = both_hold (test x) (every test xs) e in rw p.0 (every_take test k xs p.1)
@@ -62,7 +61,7 @@ all_bytes_back (suc count) bytes l e =
     ap₂ (λ (x y : List ℕ). x ++ y) one rest ∙ take-append-drop 8 bytes
 
 all_words_back : (ws : List ℕ) → every is_word ws ≡ true → words_at (length ws) (bytes_of ws) ≡ ws
-unfolding bytes_of words_at every
+unfolding bytes_of words_at
 all_words_back [] e = refl
 all_words_back (w ∷ ws) e =
     let p = both_hold (is_word w) (every is_word ws) e in

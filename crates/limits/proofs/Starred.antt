@@ -12,7 +12,7 @@ use Rattle.standby_rules.specs.Standby as standby
 use Rattle.limits.specs.Limits.{rows, AsWritten}
 
 pub as_written : AsWritten
-unfolding rows every some count_where number first ranges each_in in_range refusal_of window members closes fields_of
+unfolding rows count_where number first ranges each_in in_range refusal_of window members closes fields_of
     status_word sent_fields spoken_fields unless_refused
     observer.form observer.has_form observer.store observer.store_all observer.stores observer.stores_of observer.status_at
     observer.answer_of observer.reading_after observer.step_of standby.is_dead standby.is_unused standby.good_place standby.form

@@ -71,21 +71,21 @@ counter_fine c e = ltb-false _ _ (neither_holds (c =? 0) (top_counter <? c) e).1
 
 pub request_accepted : (s : Settings) (o : Observer) (x r c : ℕ) → first (request_refusals s o x r c) ≡ 0
     → (refusal_of s ≡ 0) × (r ≤ top_reading) × (c ≤ top_counter)
-unfolding refusal_of first every
+unfolding refusal_of first
 request_accepted s o x r c e =
     let fine = none_applies (request_refusals s o x r c) e refl in
     (rw (fine 0, fine 1), reading_fine _ _ (fine 3), counter_fine _ (fine 5))
 
 pub cut_accepted : (s : Settings) (o : Observer) (x r c k : ℕ) → first (cut_refusals s o x r c k) ≡ 0
     → (refusal_of s ≡ 0) × (r ≤ top_reading) × (c ≤ top_counter)
-unfolding refusal_of first every
+unfolding refusal_of first
 cut_accepted s o x r c k e =
     let fine = none_applies (cut_refusals s o x r c k) e refl in
     (rw (fine 0, fine 1), reading_fine _ _ (fine 3), counter_fine _ (fine 5))
 
 pub check_accepted : (s : Settings) (o : Observer) (x r ts : ℕ) → first (check_refusals s o x r ts) ≡ 0
     → (refusal_of s ≡ 0) × (r ≤ top_reading)
-unfolding refusal_of first every
+unfolding refusal_of first
 check_accepted s o x r ts e =
     let fine = none_applies (check_refusals s o x r ts) e refl in
     (rw (fine 0, fine 1), reading_fine _ _ (neither_holds _ _ (fine 3)).0)
@@ -175,14 +175,14 @@ known_counter s o e = leb-true _ _ (form_of s o e 0)
 
 -- a last reading in range keeps the form
 at_reading_lem : (s : Settings) (o : Observer) (r : ℕ) → r ≤ top_reading → has_form s o ≡ true → has_form s (at_reading r o) ≡ true
-unfolding has_form form every
+unfolding has_form form
 at_reading_lem s o r h e =
     let f = form_of s o e in rw (f 0, f 1, f 2, le-leb r top_reading h)
 
 -- so does a deadline that an accepted request stores
 with_deadline : (s : Settings) (o : Observer) (r : ℕ) → refusal_of s ≡ 0 → r ≤ top_reading → has_form s o ≡ true
     → has_form s (store (deadline (r + O s)) o) ≡ true
-unfolding has_form form every store
+unfolding has_form form store
 with_deadline s o r fine h e =
     let f = form_of s o e in
     let range = accepted_in_range s fine in
@@ -193,7 +193,7 @@ with_deadline s o r fine h e =
 -- and behind it the new latest
 with_latest : (s : Settings) (o : Observer) (c : ℕ) → (o.deadline ≡ 0 → ⊥) → c ≤ top_counter → has_form s o ≡ true
     → has_form s (store (latest c) o) ≡ true
-unfolding has_form form every store
+unfolding has_form form store
 with_latest s o c nonzero h e =
     let f = form_of s o e in rw (le-leb c top_counter h, f 1, ne_eqb o.deadline 0 nonzero, f 3)
 
@@ -213,7 +213,7 @@ form_by_steps s o x r event e = by (leaves s o x r event)
 -- and then no step is refused with 3
 no_three : (s : Settings) (o : Observer) (x r : ℕ) (event : Event) → has_form s o ≡ true
     → (step_of s o x r event).answer ≡ refuses 3 → ⊥
-unfolding step_of answer_of every
+unfolding step_of answer_of
 no_three s o x r event has =
     never_refused_with (refusals_of s o x r event) o _ 3 (λ z. omega arith) (lines event) (given event)
   where
@@ -232,7 +232,7 @@ no_three s o x r event has =
     given (check ts) e = refused_is_not_given (sym e)
 
 pub form_is_kept_lem : FormIsKept
-unfolding has_form form every restart_of
+unfolding has_form form restart_of
 form_is_kept_lem =
     record {
       at_first = λ s. refl;

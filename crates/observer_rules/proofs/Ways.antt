@@ -39,7 +39,7 @@ pub data Way (s : Settings) (o : Observer) (x r : ℕ) : ObserverEvent → Outco
 module _ (s : Settings) (o : Observer) (x r : ℕ) where
   done : (event : ObserverEvent) → first (refusals_of s o x r event) ≡ 0
       → Way s o x r event (answer_of o r event leaving at_reading (reading_after r event) (store_all (stores_of s o r event) o))
-  unfolding answer_of stores_of reading_after stores store_all store every
+  unfolding answer_of stores_of reading_after stores store_all store
   done (Request c) ok = by (o.latest <? c) refl
     where
       by : (b : Bool) → (o.latest <? c) ≡ b

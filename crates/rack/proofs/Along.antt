@@ -72,7 +72,7 @@ abbrev is_not_above : Reading → Event → Bool
 is_not_above now before = none_above now (readings_at before)
 
 below_reading : (past : List Event) (now : Reading) → every (is_not_above now) past ≡ true → top_of past now.who ≤ now.r
-unfolding top_of every
+unfolding top_of
 below_reading [] now e = omega arith
 below_reading (e ∷ past) now h =
     let p = both_hold (is_not_above now e) (every (is_not_above now) past) h in
@@ -92,7 +92,7 @@ below_reading (e ∷ past) now h =
 -- the reading of an event, if it has just one: not below the party's earlier ones, and remembered
 module _ (past : List Event) (e : Event) (now : Reading) (only : readings_at e ≡ now ∷ []) where
   pub reading_of : rising past e ≡ true → top_of past now.who ≤ now.r
-  unfolding rising every
+  unfolding rising
   reading_of h = below_reading past now (both_hold (every (is_not_above now) past) true (rw only at h)).0
 
   seen_of : now.r ≤ top_of (e ∷ past) now.who

@@ -41,7 +41,6 @@ use Rattle.rack.proofs.Rounds.{Closing, ended_by, begin_opens, same_round}
 -- ---- lists
 
 every_all : {A : Type 0} (test : A → Bool) (xs : List A) → every test xs ≡ true → All (λ x. test x ≡ true) xs
-unfolding every
 every_all test [] e = none
 every_all test (x ∷ xs) e = let p = both_hold (test x) (every test xs) e in more p.0 (every_all test xs p.1)
 
@@ -111,7 +110,6 @@ module _ (s : Settings) (clocks : Clocks) (f D : ℕ) (full : List Sent) (sent :
 
   all_early : (events : List Event) → is_run ours s clocks events ≡ true → Less (state_after ours s events).history
       → every (prompt D full) events ≡ true → All (Early (f + D)) events
-  unfolding every
   all_early [] run less quick = none
   all_early (e ∷ past) run less quick =
       let a = adds ours s clocks past e run in

@@ -159,7 +159,7 @@ module _ (s : Settings) (ok : refusal_of s ≡ 0) (clocks : Clocks) (earlier : L
     ts_fine = (is_reading s clocks.standby g ts at_begin.on_clock_lem).1
 
     at_first : Waiting []
-    unfolding now_of some
+    unfolding now_of
     at_first =
         let is =
         begin_opens s ok window (le_refl (window s)) clocks 0 false nothing earlier (held earlier at_begin.before) g ts
@@ -181,7 +181,7 @@ module _ (s : Settings) (ok : refusal_of s ≡ 0) (clocks : Clocks) (earlier : L
       as_before : (e : Event) → now_of (since between) ≤ time e → ((x : ℕ) → ack_from x ts limit e ≡ false)
           → (time e ≤ limit → standby_after (since (e ∷ between)) ≡ q)
           → Waiting (e ∷ between)
-      unfolding some now_of
+      unfolding now_of
       as_before e later none same =
           record {
             places = wait.places;
@@ -273,7 +273,7 @@ module _ (s : Settings) (ok : refusal_of s ≡ 0) (clocks : Clocks) (earlier : L
 
           -- it ends the round, or the round goes on with all that was kept and what this event adds
           at_standby_lem : Ended out.answer ⊎ Waiting (at_standby g' r e ∷ between)
-          unfolding some state_after perform now_of
+          unfolding state_after perform now_of
           at_standby_lem =
               ⊎_elim inl
               (λ adds_it.
@@ -332,7 +332,6 @@ module _ (s : Settings) (ok : refusal_of s ≡ 0) (clocks : Clocks) (earlier : L
     goes : (between : List Event) → is_run ours s clocks (since between) ≡ true → no_begin between ≡ true
         → no_restart between ≡ true
         → EndedIn between ⊎ Waiting between
-    unfolding every
     goes [] run nb nr = inr at_first
     goes (e ∷ between) run nb nr =
         let a = adds ours s clocks (since between) e run in

@@ -17,7 +17,6 @@ use Rattle.rack.proofs.Exchange.{one_exchange_ends_lem}
 -- what holds of all holds of the older ones
 every_behind : {A : Type 0} (test : A → Bool) (newer : List A) (x : A) (older : List A)
     → every test (newer ++ (x ∷ older)) ≡ true → every test older ≡ true
-unfolding every
 every_behind test [] x older e = (both_hold (test x) (every test older) e).1
 every_behind test (y ∷ newer) x older e =
     every_behind test newer x older (both_hold (test y) (every test (newer ++ (x ∷ older))) e).1

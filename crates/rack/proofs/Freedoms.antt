@@ -30,7 +30,6 @@ use Rattle.rack.proofs.History.{same_key}
 -- one element that passes is enough
 pub some_there : {A : Type 0} (test : A → Bool) (newer older : List A) (x : A) → test x ≡ true
     → some test (newer ++ (x ∷ older)) ≡ true
-unfolding some
 some_there test [] older x e = rw e
 some_there test (y ∷ newer) older x e = by (test y) (some_there test newer older x e)
   where
@@ -101,7 +100,7 @@ module _ (rules : Rules) (s : Settings) (clocks : Clocks) (past : List Event) wh
       → past ≡ later ++ (at_observer y h old e ∷ earlier)
       → y + 2 ≡ key → old ≤ r) where
     not_more : (before : Event) (later earlier : List Event) → past ≡ later ++ (before ∷ earlier) → is_not_more key r before ≡ true
-    unfolding every readings_at party_key
+    unfolding readings_at party_key
     not_more (at_recorder h old e) later earlier p = own_key key 0 r old (recorders later earlier h old e p)
     not_more (at_observer y h old e) later earlier p = own_key key (y + 2) r old (observers later earlier y h old e p)
     not_more (at_standby h old e) later earlier p = own_key key 1 r old (standbys later earlier h old e p)
@@ -132,7 +131,7 @@ module _ (rules : Rules) (s : Settings) (clocks : Clocks) (past : List Event) wh
     recorder_may : (g r : ℕ) (e : RecorderEvent) → RecorderReads rules s clocks past g r
         → delivered (state_after rules s past).history (at_recorder g r e) ≡ true
         → is_run rules s clocks (at_recorder g r e ∷ past) ≡ true
-    unfolding on_clock rising readings_at party_key every time
+    unfolding on_clock rising readings_at party_key time
     recorder_may g r e t came =
         joins rules s clocks past (at_recorder g r e) run (in_time_lem past (at_recorder g r e) t.in_time_lem)
         (holds_both (recorder_rises g r t) refl)
@@ -141,7 +140,7 @@ module _ (rules : Rules) (s : Settings) (clocks : Clocks) (past : List Event) wh
     observer_may : (x g r : ℕ) (e : ObserverEvent) → ObserverReads rules s clocks past x g r
         → delivered (state_after rules s past).history (at_observer x g r e) ≡ true
         → is_run rules s clocks (at_observer x g r e ∷ past) ≡ true
-    unfolding on_clock rising readings_at party_key every time
+    unfolding on_clock rising readings_at party_key time
     observer_may x g r e t came =
         joins rules s clocks past (at_observer x g r e) run (in_time_lem past (at_observer x g r e) t.in_time_lem)
         (holds_both (observer_rises x g r t) refl)
@@ -150,14 +149,14 @@ module _ (rules : Rules) (s : Settings) (clocks : Clocks) (past : List Event) wh
     standby_may : (g r : ℕ) (e : StandbyEvent) → StandbyReads rules s clocks past g r
         → delivered (state_after rules s past).history (at_standby g r e) ≡ true
         → is_run rules s clocks (at_standby g r e ∷ past) ≡ true
-    unfolding on_clock rising readings_at party_key every time
+    unfolding on_clock rising readings_at party_key time
     standby_may g r e t came =
         joins rules s clocks past (at_standby g r e) run (in_time_lem past (at_standby g r e) t.in_time_lem)
         (holds_both (standby_rises g r t) refl)
         (read clocks.standby g r t) came
 
 pub anything_may_happen_lem : AnythingMayHappen
-unfolding delivered on_clock rising readings_at every time
+unfolding delivered on_clock rising readings_at time
 anything_may_happen_lem rules s clocks past run =
     record {
       ticks = λ g r t. recorder_may rules s clocks past run g r tick t refl;

@@ -96,7 +96,7 @@ same_what m k e = sym (message_found m) ∙ ap message_of_lem (same_numbers_lem 
 pub sent_has : (P : Sent → Type 0) (by : Party) (what : Message) (history : List Sent) → All P history
     → was_sent history by what ≡ true
     → (t : ℕ) × P (record { by = by; what = what; time = t })
-unfolding was_sent some
+unfolding was_sent
 sent_has P by what [] none e = absurd (not_both e refl)
 sent_has P by what (x ∷ xs) (more p ps) e =
     of ((party_key x.by =? party_key by) && same_numbers (message_key x.what) (message_key what)) refl e

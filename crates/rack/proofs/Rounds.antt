@@ -119,7 +119,7 @@ module _ (s : Settings) (ok : refusal_of s ≡ 0) (w : Settings → ℕ) (window
     pub same_round : (between : List Event) → every (λ e. not (is_begin e)) between ≡ true
         → has_open_round (standby_after (between ++ (at_standby g ts begin ∷ earlier))) ≡ true
         → (standby_after (between ++ (at_standby g ts begin ∷ earlier))).ts ≡ ts
-    unfolding state_after perform every is_begin
+    unfolding state_after perform is_begin
     same_round [] nb is_open = ap (λ (q : Standby). q.ts) at_begin
     same_round (e ∷ between) nb is_open =
         let n = both_hold (not (is_begin e)) (every (λ e. not (is_begin e)) between) nb in

@@ -29,7 +29,6 @@ pub posted_every : (test : Sent → Bool) (by : Party) (g : ℕ) (answer : Said 
     → every test history ≡ true
     → ((m : Message) → sent answer ≡ message m → test (record { by = by; what = m; time = g }) ≡ true)
     → every test (posted by g answer history) ≡ true
-unfolding every
 posted_every test by g answer history e f =
     posted_either (λ sent. every test sent ≡ true) by g answer history e (λ m q. holds_both (f m q) e)
 
@@ -59,7 +58,7 @@ module _ (w : Settings → ℕ) (s : Settings) (past : List Event) where
   one_more clocks (restart g) clock good rest = rest
 
 pub sent_messages_have_form_lem : SentMessagesHaveForm
-unfolding state_after every
+unfolding state_after
 sent_messages_have_form_lem s ok w fits clocks [] run = refl
 sent_messages_have_form_lem s ok w fits clocks (e ∷ past) run =
     let a = adds (ours_within w) s clocks past e run in

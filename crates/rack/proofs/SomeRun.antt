@@ -107,7 +107,6 @@ in_time_lem g (last ∷ past) e t (more o os) = le-leb (time last) (time e) (rw 
 
 no_fall : (g who : ℕ) (past : List Event) → All (Over g) past
     → every (λ before. every (λ old. not (old.who =? who) || (old.r ≤? g)) (readings_at before)) past ≡ true
-unfolding every
 no_fall g who [] none = refl
 no_fall g who (e ∷ past) (more o os) = holds_both (one (readings_at e) o.read) (no_fall g who past os)
   where
@@ -123,14 +122,13 @@ no_fall g who (e ∷ past) (more o os) = holds_both (one (readings_at e) o.read)
 still_sent : (history : List Sent) (by : Party) (what : Message) (p : Party) (g : ℕ) (answer : Said Spoken)
     → was_sent history by what ≡ true
     → was_sent (posted p g answer history) by what ≡ true
-unfolding was_sent some
+unfolding was_sent
 still_sent history by what p g answer e =
     posted_either (λ sent. was_sent sent by what ≡ true) p g answer history e
     (λ m _. rw e (or-true ((party_key p =? party_key by) && same_numbers (message_key m) (message_key what))))
 
 -- requests arrive at once, where all of them arrive at time 0
 at_once : (history : List Sent) (c : ℕ) → arrives_within 0 history c 0 ≡ true
-unfolding every
 at_once [] c = refl
 at_once (sent ∷ history) c =
     holds_both (holds_either (not (same_numbers (message_key sent.what) (message_key (LeaseRequest c))))
@@ -155,7 +153,7 @@ module _ (s : Settings) (ok : refusal_of s ≡ 0) where
   joins_at : (g who : ℕ) (past : List Event) (e : Event) → IsRun past → All (Over g) past → time e ≡ g
       → readings_at e ≡ record { who = who; r = g } ∷ []
       → on_clock s clocks e ≡ true → delivered (after past).history e ≡ true → IsRun (e ∷ past) × All (Over g) (e ∷ past)
-  unfolding rising every
+  unfolding rising
   joins_at g who past e run over t only clock came = (
     joins ours s clocks past e run (in_time_lem g past e t over) (rw only (holds_both (no_fall g who past over) refl)) clock came,
     more (over_now g who e t only) over,
@@ -193,7 +191,7 @@ module _ (s : Settings) (ok : refusal_of s ≡ 0) where
   request_once : (x : ℕ) → x < n s
       → observerStep s freshObserver x 0 (request 1)
       ≡ (sends (LeaseGrant 1) leaving record { latest = 1; deadline = 0 + O s; last_reading = 0 })
-  unfolding observerStep answer_of stores_of reading_after stores store_all store has_form form first refusal_of every
+  unfolding observerStep answer_of stores_of reading_after stores store_all store has_form form first refusal_of
   request_once x there =
       not_refused (request_refusals s freshObserver x 0 1) freshObserver _
       (passes_on (refusals s)
@@ -203,7 +201,7 @@ module _ (s : Settings) (ok : refusal_of s ≡ 0) where
 
   check_once : (o : Observer) (x g : ℕ) → x < n s → has_form s o ≡ true → last_reading_of o ≡ 0 → g ≤ top_reading
       → observerStep s o x g (check g) ≡ (sends (CheckAck g o.latest (status_at o g)) leaving at_reading g o)
-  unfolding observerStep answer_of stores_of reading_after store_all first refusal_of every
+  unfolding observerStep answer_of stores_of reading_after store_all first refusal_of
   check_once o x g there formed low top =
       not_refused (check_refusals s o x g g) o _
       (passes_on (refusals s) (3 when not (has_form s o) ∷ 4 when (bad_reading (last_reading_of o) g || (top_reading <? g))
@@ -233,7 +231,7 @@ module _ (s : Settings) (ok : refusal_of s ≡ 0) where
   empty = refl
 
   at_first : First 0
-  unfolding granting state_after perform time readings_at on_clock delivered sent_by is_request every posted
+  unfolding granting state_after perform time readings_at on_clock delivered sent_by is_request posted
   at_first =
       let one = joins_at 0 (party_key recorder) [] (at_recorder 0 0 tick) empty none refl refl (on_even 0 zero-le) refl in
       let p =
@@ -433,7 +431,7 @@ module _ (s : Settings) (ok : refusal_of s ≡ 0) where
         ([], (after past).history, bound, refl)))
 
     early_check : sent_by 0 (after (checking ∷ past)).history ≡ true
-    unfolding state_after perform sent_by posted is_request every
+    unfolding state_after perform sent_by posted is_request
     early_check = rw answered f.early
 
     early_ack : sent_by 0 (after (reply k past ∷ (checking ∷ past))).history ≡ true
@@ -467,29 +465,29 @@ module _ (s : Settings) (ok : refusal_of s ≡ 0) where
   -- ---- what is supposed of the run
 
   one_begin : (k : ℕ) → no_begin (replying k) ≡ true
-  unfolding replying reply every is_begin
+  unfolding replying reply is_begin
   one_begin zero = refl
   one_begin (suc k) = one_begin k
 
   no_restart_lem : (k : ℕ) → no_restart (replying k) ≡ true
-  unfolding replying reply every is_restart
+  unfolding replying reply is_restart
   no_restart_lem zero = refl
   no_restart_lem (suc k) = no_restart_lem k
 
   -- all that arrives arrives at once
   prompt_first : (history : List Sent) (k : ℕ) → every (prompt 0 history) (granting k) ≡ true
-  unfolding granting every prompt
+  unfolding granting prompt
   prompt_first history zero = refl
   prompt_first history (suc k) = holds_both (at_once history 1) (prompt_first history k)
 
   prompt_then : (history : List Sent) (k : ℕ) → every (prompt 0 history) (since (replying k)) ≡ true
-  unfolding replying reply every prompt
+  unfolding replying reply prompt
   prompt_then history zero = prompt_first history (n s)
   prompt_then history (suc k) = prompt_then history k
 
   -- the ack of each has arrived
   came : (x k : ℕ) → x < k → some (ack_from x bound (bound + Δ s)) (replying k) ≡ true
-  unfolding replying reply some ack_from
+  unfolding replying reply ack_from
   came x zero h = absurd (omega arith)
   came x (suc k) h = by (x =? k) refl (came x k)
     where

@@ -13,7 +13,7 @@ use Rattle.rack.specs.Claims.{is_request, sent_by, prompt, is_begin, is_restart,
 use Rattle.rack_shown.specs.Tables.{answers_to}
 
 unfoldable pub computing : Unit {0}
-unfolding every some count_where first ranges each_in in_range refusal_of window members survives closes unless_refused
+unfolding count_where first ranges each_in in_range refusal_of window members survives closes unless_refused
     recorder.spaced recorder.form recorder.has_form recorder.lacking_from recorder.lacking recorder.kept recorder.advanced
     recorder.accepted recorder.registered recorder.standing recorder.tick_event recorder.grant_event recorder.drive_event
     recorder.step_of

@@ -23,7 +23,7 @@ in_a_row true true true true true = refl
 
 all_of_them : (rules : Rules) (s : Settings) (clocks : Clocks) (events : List Event)
     → passes_but no_test rules s clocks events ≡ is_run rules s clocks events
-unfolding passes_but is_run every
+unfolding passes_but is_run
 all_of_them rules s clocks [] = refl
 all_of_them rules s clocks (e ∷ past) =
     rw (all_of_them rules s clocks past)

@@ -50,7 +50,6 @@ at_most_zero zero = refl
 at_most_zero (suc x) = leb-suc-zero x ∙ sym (ne_eqb (suc x) 0 (λ e. omega arith))
 
 none_above_zero : (xs : List ℕ) → every (λ x. x ≤? 0) xs ≡ every is_zero xs
-unfolding every
 none_above_zero [] = refl
 none_above_zero (x ∷ xs) = ap₂ ◌&&◌ (at_most_zero x) (none_above_zero xs)
 
@@ -87,7 +86,7 @@ module _ (s : Settings) (rec : Recorder) where
   same_under x y false h = and-false x ∙ sym (and-false y)
 
   pub as_coded : open_lease_count rec ≤ 64 → has_form s rec ≡ joined true (conditions s rec)
-  unfolding has_form form every
+  unfolding has_form form
   as_coded h =
       rw (le-leb (open_lease_count rec) 64 h)
       (ap (λ (b : Bool). (rec.counter ≤? top_counter) && ((rec.stopped ≤? 1) && b))
@@ -96,5 +95,5 @@ module _ (s : Settings) (rec : Recorder) where
       ∙ sym (joined_every true (conditions s rec))
 
   pub too_many : 64 < open_lease_count rec → has_form s rec ≡ false
-  unfolding has_form form every
+  unfolding has_form form
   too_many h = rw (lt-leb (open_lease_count rec) 64 h) (simp and-false)

@@ -117,7 +117,7 @@ module _ (s : Settings) (rec : Recorder) where
       }
 
   pub has_form_lem : Formed s rec → has_form s rec ≡ true
-  unfolding has_form form every
+  unfolding has_form form
   has_form_lem f =
       holds_both (le-leb _ _ f.counter_top)
       (holds_both (le-leb _ _ f.flag)

@@ -293,7 +293,6 @@ fresh_formed s =
 -- no line of refusal 3 applies to a record of the form
 no_line_three : (s : Settings) (rec : Recorder) (r : ℕ) (event : Event) → has_form s rec ≡ true
     → every (λ line. not (line.no =? 3) || not line.applies) (refusals_of s rec r event) ≡ true
-unfolding every
 no_line_three s rec r tick e = rw e
 no_line_three s rec r (grant x j) e = rw e
 no_line_three s rec r drive e = rw e

@@ -36,7 +36,7 @@ pub record Allowed (s : Settings) (rec : Recorder) (r : ℕ) : Type 0 where
 
 module _ (s : Settings) (rec : Recorder) (r : ℕ) where
   allowed_step : first (step_refusals s rec r) ≡ 0 → Allowed s rec r
-  unfolding refusal_of every
+  unfolding refusal_of
   allowed_step e =
       let reading = neither_holds (top_reading <? r) (r <? last_reading_of rec) (none_applies (step_refusals s rec r) e refl 3) in
       record {
@@ -47,28 +47,26 @@ module _ (s : Settings) (rec : Recorder) (r : ℕ) where
       }
 
   pub allowed : (event : Event) → Passes s rec r event → Allowed s rec r
-  unfolding every
   allowed tick e = allowed_step e
   allowed (grant x j) e = allowed_step (both_pass (step_refusals s rec r) _ refl e).0
   allowed drive e = allowed_step e
 
   -- a grant that is not refused comes from an observer and has been asked for
   pub allowed_grant : (x j : ℕ) → Passes s rec r (grant x j) → (x < n s) × (1 ≤ j) × (j ≤ rec.counter)
-  unfolding every
   allowed_grant x j e =
       let number = neither_holds (is_zero j) (rec.counter <? j) (none_applies (grant_refusals s rec r x j) e refl 5) in
       (leb-false _ _ (none_applies (grant_refusals s rec r x j) e refl 4), positive j number.0, ltb-false _ _ number.1)
 
   -- and the other way round
   pub step_passes : Allowed s rec r → first (step_refusals s rec r) ≡ 0
-  unfolding refusal_of first every
+  unfolding refusal_of first
   step_passes ok =
       let fine = none_applies (refusals s) ok.settings refl in
       let last = le-ltb r (last_reading_of rec) ok.reading_last in
       rw (fine 0, fine 1, has_form_lem s rec ok.form, le-ltb top_reading r ok.reading_top, last)
 
   pub grant_passes : (x j : ℕ) → Allowed s rec r → x < n s → 1 ≤ j → j ≤ rec.counter → first (grant_refusals s rec r x j) ≡ 0
-  unfolding first every
+  unfolding first
   grant_passes x j ok there some known =
       passes_on (step_refusals s rec r) (5 when (n s ≤? x) ∷ 6 when (is_zero j || (rec.counter <? j)) ∷ []) refl (step_passes ok)
       (rw (lt-leb (n s) x there, not_zero j some, le-ltb rec.counter j known))

@@ -123,7 +123,7 @@ pub record Accepted (s : Settings) : Type 0 where
 -- no line of the table of refusals applies
 pub passes : (s : Settings) → refusal_of s ≡ 0
     → (in_range s ≡ true) × ((negative (slack_a s) || negative (slack_b s) || negative (slack_c s)) ≡ false)
-unfolding refusal_of every
+unfolding refusal_of
 passes s e = (not-false _ (none_applies _ e refl 0), none_applies _ e refl 1)
 
 pub accepted_in_range : (s : Settings) → refusal_of s ≡ 0 → InRange s

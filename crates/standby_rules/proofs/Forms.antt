@@ -57,13 +57,13 @@ form_says s q e =
     }
 
 pub form_holds : (s : Settings) (q : Standby) → Formed s q → has_form s q ≡ true
-unfolding has_form form every
+unfolding has_form form
 form_holds s q f =
     rw (f.zero_if_closed, f.ts_if_open, le-leb (last_reading_of q) top_reading f.reading, f.below_quorum, f.good, f.beyond)
 
 -- a closed round, as a run starts with
 pub closed_formed : (s : Settings) (r : ℕ) → r ≤ top_reading → has_form s (closed r) ≡ true
-unfolding every is_unused good_place is_dead
+unfolding is_unused good_place is_dead
 closed_formed s r small =
     form_holds s (closed r) (record {
       zero_if_closed = refl;
@@ -90,7 +90,7 @@ open_formed s ts r places past small few good beyond =
 
 begun_formed : (s : Settings) (r : ℕ) → r ≤ top_reading
     → has_form s (opened r) ≡ true
-unfolding every is_unused good_place is_dead
+unfolding is_unused good_place is_dead
 begun_formed s r small =
     open_formed s r r no_places (le_refl r) small (nobody_closes s (kept_marks no_places) refl) refl
     (every_drop is_unused (n s) no_places refl)
@@ -168,7 +168,7 @@ verdict_spoken places =
 
 no_three : (w : ℕ) (s : Settings) (q : Standby) (r : ℕ) (event : Event) → has_form s q ≡ true
     → NotThree (step_within w s q r event)
-unfolding step_within begin_event every
+unfolding step_within begin_event
 no_three w s q r event formed =
     never_refused_with (refusals_of s q r event) q _ 3 (λ z. omega arith) (lines event) (done event)
   where

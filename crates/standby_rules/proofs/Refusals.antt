@@ -54,20 +54,17 @@ admits s q r settings formed reading =
     }
 
 pub begin_admitted : (s : Settings) (q : Standby) (r : ℕ) → first (begin_refusals s q r) ≡ 0 → Admitted s q r
-unfolding every
 begin_admitted s q r e =
     let passed = none_applies (begin_refusals s q r) e refl in
     admits s q r (settings_pass s (passed 0) (passed 1)) (passed 2) (passed 3)
 
 pub poll_admitted : (s : Settings) (q : Standby) (r : ℕ) → first (poll_refusals s q r) ≡ 0 → Admitted s q r × (has_open_round q ≡ true)
-unfolding every
 poll_admitted s q r e =
     let passed = none_applies (poll_refusals s q r) e refl in
     (admits s q r (settings_pass s (passed 0) (passed 1)) (passed 2) (passed 3), not-false (has_open_round q) (passed 4))
 
 pub ack_counted : (s : Settings) (q : Standby) (r x ts cnt : ℕ) → first (ack_refusals s q r x ts cnt) ≡ 0
     → Counted s q r x ts cnt
-unfolding every
 ack_counted s q r x ts cnt e =
     let passed = none_applies (ack_refusals s q r x ts cnt) e refl in
     let reading = neither_holds (bad_reading (last_reading_of q) r) (top_reading <? ts) (passed 3) in
@@ -81,14 +78,14 @@ ack_counted s q r x ts cnt e =
 
 -- and the other way round
 pub begin_passes : (s : Settings) (q : Standby) (r : ℕ) → Admitted s q r → first (begin_refusals s q r) ≡ 0
-unfolding refusal_of first every
+unfolding refusal_of first
 begin_passes s q r a =
     let fine = none_applies (refusals s) a.settings refl in
     rw (fine 0, fine 1, a.formed, le-ltb top_reading r a.in_range_lem, le-ltb r (last_reading_of q) a.no_fall)
 
 pub ack_passes : (s : Settings) (q : Standby) (r x ts cnt : ℕ) → Counted s q r x ts cnt → ts ≤ top_reading
     → first (ack_refusals s q r x ts cnt) ≡ 0
-unfolding refusal_of first every
+unfolding refusal_of first
 ack_passes s q r x ts cnt c in_range_lem =
     let a = c.admitted in
     let fine = none_applies (refusals s) a.settings refl in

@@ -55,7 +55,6 @@ dead_in_window_lem w s q r event m = last_ack_lem w s q r m (way w s q r event)
 
 -- nothing is kept in empty places
 pub none_kept : (x : ℕ) → Kept no_places x → ⊥
-unfolding every
 none_kept x e =
     not_both e (not-true _ (every_anywhere (λ (place : Place). not place.kept) unused refl no_places refl x))
 

@@ -27,7 +27,7 @@ use Rattle.stepfile_rules.specs.Claims.{starts_run, answered_of, answered_lines,
 -- what stands before a line's feed has none itself
 plain_line : (front rest : List ℕ) → every is_plain front ≡ true
     → lines_of ((front ++ text "\n") ++ rest) ≡ (front ++ text "\n") ∷ lines_of rest
-unfolding lines_of onto every
+unfolding lines_of onto
 plain_line [] rest p = refl
 plain_line (byte ∷ front) rest p =
     let b = both_hold (is_plain byte) (every is_plain front) p in

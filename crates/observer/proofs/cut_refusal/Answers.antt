@@ -17,7 +17,6 @@ abbrev line : (k : ℕ) → List Refusal
 line k = 9 when (2 <? k) ∷ []
 
 pub returns-then-number-ne0 : goal.returns-then-number-ne0
-unfolding every
 returns-then-number-ne0 c =
     let a = c.args in
     first_stays (request_refusals a.s a.o a.x a.reading a.counter) (line a.stores) refl
@@ -26,7 +25,6 @@ returns-then-number-ne0 c =
 -- nothing before it applies: 9 alone decides
 only-9 : (s : Settings) (o : Observer) (x r c k : ℕ) {number : ℕ} → number ≡ first (request_refusals s o x r c) → number ≡ 0
     → first (cut_refusals s o x r c k) ≡ first (line k)
-unfolding every
 only-9 s o x r c k told none = first_goes_on (request_refusals s o x r c) (line k) refl told none
 
 pub returns-then-stores-gt2 : goal.returns-then-stores-gt2

@@ -5,5 +5,5 @@ use Rattle.observer_rules.specs.Observer.{form, has_form}
 use Rattle.observer.proofs.has_form.Goals as goal
 
 pub returns : goal.returns
-unfolding has_form form every
+unfolding has_form form
 returns c = simp (and_assoc, and-true)

@@ -24,12 +24,10 @@ line c = 6 when ((c =? 0) || (top_counter <? c)) ∷ []
 -- as code knows it: by the number that the lines before 6 gave
 module _ (s : Settings) (o : Observer) (x r c : ℕ) {k : ℕ} (told : k ≡ first (shared s o x r)) where
   stays : (k ≡ 0 → ⊥) → k ≡ first (request_refusals s o x r c)
-  unfolding every
   stays = first_stays (shared s o x r) (line c) refl told
 
   -- nothing before it applies: 6 alone decides
   only-6 : k ≡ 0 → first (request_refusals s o x r c) ≡ first (line c)
-  unfolding every
   only-6 = first_goes_on (shared s o x r) (line c) refl told
 
 pub returns-then-number-ne0 : goal.returns-then-number-ne0

@@ -22,12 +22,12 @@ later s o x bad = 3 when not (has_form s o) ∷ 4 when bad ∷ 5 when (n s ≤? 
 -- as code knows it: by the number that the settings gave, and by what was found of the form
 module _ (s : Settings) (o : Observer) (x : ℕ) (bad : Bool) {k : ℕ} (told : k ≡ refusal_of s) where
   stays : (k ≡ 0 → ⊥) → k ≡ first (shared_refusals s o x bad)
-  unfolding refusal_of every
+  unfolding refusal_of
   stays = first_stays (refusals s) (later s o x bad) refl told
 
   -- the settings refuse nothing: the other numbers decide
   rest : k ≡ 0 → first (shared_refusals s o x bad) ≡ first (later s o x bad)
-  unfolding refusal_of every
+  unfolding refusal_of
   rest = first_goes_on (refusals s) (later s o x bad) refl told
 
 pub returns-then-number-ne0 : goal.returns-then-number-ne0

@@ -19,7 +19,6 @@ abbrev lines : Settings → Recorder → (observer number : ℕ) → List Refusa
 lines s rec observer number = 5 when (n s ≤? observer) ∷ 6 when (is_zero number || (rec.counter <? number)) ∷ []
 
 pub returns-then-refused-ne0 : goal.returns-then-refused-ne0
-unfolding every
 returns-then-refused-ne0 c =
     first_stays (step_refusals _ _ _) (lines c.args.s c.args.rec c.args.observer c.args.number) refl
     c.step_refusal-refused.ensures c.if-refused-ne0.true
@@ -28,7 +27,6 @@ returns-then-refused-ne0 c =
 goes : (s : Settings) (rec : Recorder) (reading observer number refused : ℕ)
     → refused ≡ first (step_refusals s rec reading) → refused ≡ 0
     → first (grant_refusals s rec reading observer number) ≡ first (lines s rec observer number)
-unfolding every
 goes s rec reading observer number refused e none =
     first_goes_on (step_refusals s rec reading) (lines s rec observer number) refl e none
 

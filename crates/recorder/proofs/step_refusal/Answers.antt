@@ -18,14 +18,14 @@ abbrev lines : Settings → Recorder → (reading : ℕ) → List Refusal
 lines s rec reading = 3 when not (has_form s rec) ∷ 4 when bad_reading (last_reading_of rec) reading ∷ []
 
 pub returns-then-number-ne0 : goal.returns-then-number-ne0
-unfolding refusal_of every
+unfolding refusal_of
 returns-then-number-ne0 c =
     first_stays (refusals _) (lines c.args.s c.args.rec c.args.reading) refl c.refusal-number.ensures c.if-number-ne0.true
 
 -- the settings are not refused: the number is the record's or the reading's
 goes : (s : Settings) (rec : Recorder) (reading number : ℕ) → number ≡ refusal_of s → number ≡ 0
     → first (step_refusals s rec reading) ≡ first (lines s rec reading)
-unfolding refusal_of every
+unfolding refusal_of
 goes s rec reading number e none = first_goes_on (refusals _) (lines s rec reading) refl e none
 
 pub returns-then-not-has_form : goal.returns-then-not-has_form

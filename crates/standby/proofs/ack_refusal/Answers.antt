@@ -32,11 +32,9 @@ module _ (s : Settings) (q : Standby) (r x ts cnt : ℕ) where
 
   -- as code knows it: by the number that the lines up to 3 gave
   stays : {k : ℕ} → k ≡ first up-to-3 → (k ≡ 0 → ⊥) → k ≡ first (ack_refusals s q r x ts cnt)
-  unfolding every
   stays told = first_stays up-to-3 later refl told
 
   goes : {k : ℕ} → k ≡ first up-to-3 → k ≡ 0 → first (ack_refusals s q r x ts cnt) ≡ first later
-  unfolding every
   goes told = first_goes_on up-to-3 later refl told
 
 pub returns-then-number-ne0 : goal.returns-then-number-ne0

@@ -16,11 +16,9 @@ use Rattle.standby.proofs.begin_refusal.Goals as goal
 -- as code knows it: by the number that the lines up to 3 gave
 module _ (s : Settings) (q : Standby) (r : ℕ) {k : ℕ} (told : k ≡ first (refusals s ++ (3 when not (has_form s q) ∷ []))) where
   stays : (k ≡ 0 → ⊥) → k ≡ first (begin_refusals s q r)
-  unfolding every
   stays = first_stays (refusals s ++ (3 when not (has_form s q) ∷ [])) (4 when bad_reading (last_reading_of q) r ∷ []) refl told
 
   goes : k ≡ 0 → first (begin_refusals s q r) ≡ first (4 when bad_reading (last_reading_of q) r ∷ [])
-  unfolding every
   goes = first_goes_on (refusals s ++ (3 when not (has_form s q) ∷ [])) (4 when bad_reading (last_reading_of q) r ∷ []) refl told
 
 pub returns-then-number-ne0 : goal.returns-then-number-ne0

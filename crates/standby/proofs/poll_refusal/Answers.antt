@@ -14,11 +14,9 @@ use Rattle.standby.proofs.poll_refusal.Goals as goal
 -- as code knows it: by the number that the lines before 7 gave
 module _ (s : Settings) (q : Standby) (r : ℕ) {k : ℕ} (told : k ≡ first (begin_refusals s q r)) where
   stays : (k ≡ 0 → ⊥) → k ≡ first (poll_refusals s q r)
-  unfolding every
   stays = first_stays (begin_refusals s q r) (7 when not (has_open_round q) ∷ []) refl told
 
   goes : k ≡ 0 → first (poll_refusals s q r) ≡ first (7 when not (has_open_round q) ∷ [])
-  unfolding every
   goes = first_goes_on (begin_refusals s q r) (7 when not (has_open_round q) ∷ []) refl told
 
 pub returns-then-sooner-ne0 : goal.returns-then-sooner-ne0

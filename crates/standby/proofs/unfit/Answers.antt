@@ -15,11 +15,11 @@ use Rattle.standby.proofs.unfit.Goals as goal
 -- as code knows it: by the number that the settings gave
 module _ (s : Settings) (q : Standby) {k : ℕ} (told : k ≡ refusal_of s) where
   stays : (k ≡ 0 → ⊥) → k ≡ first (refusals s ++ (3 when not (has_form s q) ∷ []))
-  unfolding refusal_of every
+  unfolding refusal_of
   stays = first_stays (refusals s) (3 when not (has_form s q) ∷ []) refl told
 
   goes : k ≡ 0 → first (refusals s ++ (3 when not (has_form s q) ∷ [])) ≡ first (3 when not (has_form s q) ∷ [])
-  unfolding refusal_of every
+  unfolding refusal_of
   goes = first_goes_on (refusals s) (3 when not (has_form s q) ∷ []) refl told
 
 pub returns-then-number-ne0 : goal.returns-then-number-ne0

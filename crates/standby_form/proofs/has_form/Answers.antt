@@ -7,7 +7,7 @@ use Rattle.standby_rules.specs.Standby.{form, has_form}
 use Rattle.standby_form.proofs.has_form.Goals as goal
 
 pub returns : goal.returns
-unfolding has_form form every
+unfolding has_form form
 returns c =
     let a = c.args in
     rw (
