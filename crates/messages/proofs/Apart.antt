@@ -6,19 +6,22 @@ use mathlib.Core.Bool.{Bool, true, false, ◌&&◌}
 use mathlib.Core.List.{List, [], ◌∷◌}
 use mathlib.Core.Path.{◌≡◌, refl, sym, ap, ap₂, ◌∙◌}
 use borrow.Author.Tests.{eqb-false}
+use Rattle.std.specs.Prelude.{Result, Ok, Err}
 use Rattle.words.specs.Tests.{◌=?◌}
 use Rattle.words.specs.Lists.{text}
 use Rattle.words.specs.Said.{Said, number as number_of}
 use Rattle.words.specs.Said.Said.{refusal, gives}
+use Rattle.refusals.specs.declared.Refusal.{Refusal}
+use Rattle.refusals.proofs.Apart.{refusal_at, refusal_found}
 use Rattle.messages.specs.declared.Status.{Status}
 use Rattle.messages.specs.declared.Status.TheVariants.{Alive as AliveStatus, Dead as DeadStatus}
 use Rattle.messages.specs.declared.Message.TheVariants.{LeaseRequest, LeaseGrant, Check, CheckAck}
 use Rattle.messages.specs.declared.Answer.{Answer}
-use Rattle.messages.specs.declared.Answer.TheVariants.{Refused, Send, Say}
+use Rattle.messages.specs.declared.Answer.TheVariants.{Send, Say}
 use Rattle.messages.specs.declared.Word.TheVariants.{Unregistered, Running, Stopped, Silent, Cut, Waiting, Late, Unknown, Dead, Alive}
 use Rattle.messages.specs.Messages.{Field, fields_of, status_word}
 use Rattle.messages.specs.Messages.Field.{word, number}
-use Rattle.messages.specs.Answers.{Sending, nothing, message, Spoken, giving, said, words_of, sent_fields, spoken_fields, AnswersToldApart}
+use Rattle.messages.specs.Answers.{Sending, nothing, message, Spoken, giving, given, said, words_of, sent_fields, spoken_fields, AnswersToldApart}
 
 same : List ℕ → List ℕ → Bool
 same [] [] = true
@@ -44,9 +47,8 @@ status [] = DeadStatus
 status (field ∷ fields) = if is field "Alive" then AliveStatus else DeadStatus
 
 -- the answer with this number and these fields
-back : ℕ → List Field → Answer
-back k [] = Refused k
-back k (field ∷ fields) =
+answer_of : Field → List Field → Answer
+answer_of field fields =
     if is field "LEASE-REQUEST" then Send (LeaseRequest (value fields))
     else (if is field "LEASE-GRANT" then Send (LeaseGrant (value fields))
     else (if is field "CHECK" then Send (Check (value fields))
@@ -62,30 +64,34 @@ back k (field ∷ fields) =
     else (if is field "dead" then Say (Dead (value fields))
     else Say (Alive (value fields))))))))))))))
 
-found : (a : Answer) → back (number_of (said a)) (spoken_fields (said a)) ≡ a
-unfolding back said words_of spoken_fields sent_fields fields_of status_word number_of same is value rest status
-found (Refused k) = refl
-found (Send (LeaseRequest cnt)) = refl
-found (Send (LeaseGrant cnt)) = refl
-found (Send (Check ts)) = refl
-found (Send (CheckAck ts cnt AliveStatus)) = refl
-found (Send (CheckAck ts cnt DeadStatus)) = refl
-found (Say Unregistered) = refl
-found (Say Running) = refl
-found (Say Stopped) = refl
-found (Say Silent) = refl
-found (Say Cut) = refl
-found (Say Waiting) = refl
-found (Say Late) = refl
-found (Say Unknown) = refl
-found (Say (Dead m)) = refl
-found (Say (Alive m)) = refl
+back : ℕ → List Field → Result Answer Refusal
+back k [] = Err (refusal_at k)
+back k (field ∷ fields) = Ok (answer_of field fields)
+
+found : (a : Result Answer Refusal) → back (number_of (said a)) (spoken_fields (said a)) ≡ a
+unfolding back answer_of said given words_of spoken_fields sent_fields fields_of status_word number_of same is value rest status
+found (Err r) = ap Err (refusal_found r)
+found (Ok (Send (LeaseRequest cnt))) = refl
+found (Ok (Send (LeaseGrant cnt))) = refl
+found (Ok (Send (Check ts))) = refl
+found (Ok (Send (CheckAck ts cnt AliveStatus))) = refl
+found (Ok (Send (CheckAck ts cnt DeadStatus))) = refl
+found (Ok (Say Unregistered)) = refl
+found (Ok (Say Running)) = refl
+found (Ok (Say Stopped)) = refl
+found (Ok (Say Silent)) = refl
+found (Ok (Say Cut)) = refl
+found (Ok (Say Waiting)) = refl
+found (Ok (Say Late)) = refl
+found (Ok (Say Unknown)) = refl
+found (Ok (Say (Dead m))) = refl
+found (Ok (Say (Alive m))) = refl
 
 pub told_apart : AnswersToldApart
 told_apart a a' n f = sym (found a) ∙ ap₂ back n f ∙ found a'
 
 -- what says the same is the same
-pub said_apart : {a a' : Answer} → said a ≡ said a' → a ≡ a'
+pub said_apart : {a a' : Result Answer Refusal} → said a ≡ said a' → a ≡ a'
 said_apart {a} {a'} e = told_apart a a' (ap number_of e) (ap spoken_fields e)
 
 -- the first byte of the word that is said; 0 for a refusal, 1 for a message

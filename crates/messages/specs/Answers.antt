@@ -1,15 +1,17 @@
 -- What each answer of a step says: the refusal's number with the values behind it; or the message to be sent, or none, and a word
 -- with its values, or none.
-use Rattle.std.specs.Prelude.{ℕ, Bool, true, false, List, [], ◌∷◌, ◌++◌, map, ◌≡◌}
+use Rattle.std.specs.Prelude.{ℕ, Bool, true, false, List, [], ◌∷◌, ◌++◌, map, ◌≡◌, Result, Ok, Err}
 use Prim.Native.String.{String}
 use Rattle.words.specs.Lists.{text}
 use Rattle.words.specs.Said.{Said, number as number_of, refused}
 use Rattle.words.specs.Said.Said.{refusal, gives}
+use Rattle.refusals.specs.declared.Refusal.{Refusal}
+use Rattle.refusals.specs.Refusals.{number_of as number_of_refusal}
 use Rattle.messages.specs.declared.Message.{Message}
 use Rattle.messages.specs.declared.Word.{Word}
 use Rattle.messages.specs.declared.Word.TheVariants.{Unregistered, Running, Stopped, Silent, Cut, Waiting, Late, Unknown, Dead, Alive}
 use Rattle.messages.specs.declared.Answer.{Answer}
-use Rattle.messages.specs.declared.Answer.TheVariants.{Refused, Send, Say}
+use Rattle.messages.specs.declared.Answer.TheVariants.{Send, Say}
 use Rattle.messages.specs.Messages.{Field, fields_of}
 use Rattle.messages.specs.Messages.Field.{word, number}
 
@@ -49,10 +51,13 @@ words_of Unknown = word (text "unknown") ∷ []
 words_of (Dead m) = word (text "dead") ∷ number m ∷ []
 words_of (Alive m) = word (text "alive") ∷ number m ∷ []
 
-unfoldable pub said : Answer → Said Spoken
-said (Refused k) = refuses k
-said (Send m) = sends m
-said (Say w) = speaks (words_of w)
+unfoldable pub given : Answer → Said Spoken
+given (Send m) = sends m
+given (Say w) = speaks (words_of w)
+
+unfoldable pub said : Result Answer Refusal → Said Spoken
+said (Ok a) = given a
+said (Err r) = refuses (number_of_refusal r)
 
 -- a refusal, whatever its number
 unfoldable pub is_refusal : Said Spoken → Bool
@@ -76,4 +81,4 @@ spoken_fields (gives (giving sending words)) = sent_fields sending ++ words
 -- Number, words and values together tell all answers apart.
 abbrev pub AnswersToldApart : Type 0
 AnswersToldApart =
-    (a a' : Answer) → number_of (said a) ≡ number_of (said a') → spoken_fields (said a) ≡ spoken_fields (said a') → a ≡ a'
+    (a a' : Result Answer Refusal) → number_of (said a) ≡ number_of (said a') → spoken_fields (said a) ≡ spoken_fields (said a') → a ≡ a'

@@ -3,7 +3,8 @@ use Rattle.std.specs.Prelude.{ℕ, Bool, ◌||◌, List, if◌then◌else◌}
 use Rattle.words.specs.Tests.{◌<?◌, ◌=?◌}
 use Rattle.words.specs.Said.{Said, Refusal, first}
 use Rattle.messages.specs.Messages.{top_reading}
-use Rattle.messages.specs.Answers.{Spoken, refuses}
+use Rattle.messages.specs.declared.Stepped.{Stepped}
+use Rattle.messages.specs.Answers.{Spoken, refuses, said}
 
 pub record Outcome (R : Type 0) : Type 0 where
   pub answer : Said Spoken
@@ -12,6 +13,10 @@ pub record Outcome (R : Type 0) : Type 0 where
 infix 15 ◌leaving◌
 abbrev pub ◌leaving◌ : {R : Type 0} → Said Spoken → R → Outcome R
 answer leaving rec = record { answer = answer; rec = rec }
+
+-- what a step's result says
+abbrev pub outcome : {R : Type 0} → Stepped R → Outcome R
+outcome done = said done.answer leaving done.rec
 
 -- rule 2.2: the first line of the table that applies, or the step.
 unfoldable pub unless_refused : {R : Type 0} → List Refusal → R → Outcome R → Outcome R

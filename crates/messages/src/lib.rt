@@ -5,12 +5,14 @@ ghost use Rattle.std.specs.Prelude.{◌≡◌};
 ghost use Rattle.messages.specs.Answers.{said, is_refusal, AnswersToldApart};
 ghost use Rattle.messages.specs.Outcomes.{bad_reading};
 
+use refusals::Refusal;
+
 // Greatest counter, 2^40, and greatest reading or ts, 2^40 - 1.
 pub const TOP_COUNTER: u64 = 1099511627776;
 
 pub const TOP_READING: u64 = 1099511627775;
 
-#[derive(Clone, Copy)]
+#[derive(Clone, Copy, PartialEq, Eq)]
 pub enum Status {
     Alive,
     Dead,
@@ -46,24 +48,26 @@ pub enum Word {
     Alive(u64),
 }
 
-// A step's answer: rules 2.2 and 2.5.
+// What an accepted step answers: rule 2.5.
 #[derive(Clone, Copy)]
 pub enum Answer {
-    // the number of the refusal
-    Refused(u32),
     Send(Message),
     Say(Word),
 }
 
+// What a step returns: its answer, or the refusal (rule 2.2), and the record that it leaves.
+#[derive(Clone, Copy)]
+pub struct Stepped<R> {
+    pub answer: Result<Answer, Refusal>,
+    pub rec: R,
+}
+
 // Is it a refusal, whatever its number?
-pub fn is_refusal(answer: Answer) -> bool
+#[tactic(auto, unfolding(crate::specs::Answers::said, crate::specs::Answers::is_refusal, crate::specs::Answers::given))]
+pub fn is_refusal(answer: Result<Answer, Refusal>) -> bool
     ensures { result ≡ is_refusal (said answer) }
 {
-    match answer {
-        Answer::Refused(_) => true,
-        Answer::Send(_) => false,
-        Answer::Say(_) => false,
-    }
+    answer.is_err()
 }
 
 // Rule 2.4, which is refusal 4.
