@@ -52,6 +52,7 @@ fn read_on(s: &[u8], greatest: u64, first: u64) -> Result<Number, NoNumber>
     ensures { result ≡ read_on greatest first 1 (drop 1 s.now) }
 {
     let mut value = first;
+    // Kept: tried, the proof did not close with `s.iter().enumerate().skip(1)`.
     for i in 1..s.len() {
         let Some(digit) = digit_of(s[i]) else {
             return Ok(Number { value, length: i });
@@ -90,7 +91,7 @@ pub fn digit_count(n: u64) -> usize
     }
 }
 
-// Writes the digits of `n` at the front of `out`. What stands after them is not touched.
+// Writes the digits of `n` at the front of `out`, by calls of itself, since the last digit is found first. What stands after them is not touched.
 fn write_digits(out: &mut [u8], n: u64) -> usize
     requires { length (digits n) ≤ length out.old }
     ensures { (result ≡ length (digits n)) × (out.new ≡ digits n ++ drop (length (digits n)) out.old) }
@@ -100,6 +101,7 @@ fn write_digits(out: &mut [u8], n: u64) -> usize
         return 1;
     }
     let count = write_digits(&mut out[..], n / 10);
+    // Kept: no plainer by `u8::try_from`, because its error could never come.
     out[count] = b'0' + (n % 10) as u8;
     count + 1
 }

@@ -34,6 +34,7 @@ pub fn agreement(s: &[u8], word: &[u8]) -> usize
 }
 
 // Does the word stand at the front?
+// Kept: the clauses of the readers above speak of `begins`; this says it of the library's test.
 #[tactic(auto, using(crate::proofs::Rooms::starts_lem))]
 pub fn starts(s: &[u8], word: &[u8]) -> bool
     ensures { result ≡ begins word.now s.now }
@@ -42,6 +43,7 @@ pub fn starts(s: &[u8], word: &[u8]) -> bool
 }
 
 // Is it the word and nothing else?
+// Kept: the clauses of the readers above speak of `is_exactly`; this says it of the library's comparison.
 #[tactic(auto, using(crate::proofs::Rooms::exactly_lem))]
 pub fn is_exactly(s: &[u8], word: &[u8]) -> bool
     ensures { result ≡ is_exactly word.now s.now }
