@@ -13,5 +13,5 @@ pub loop-done-preserved : goal.loop-done-preserved
 loop-done-preserved g c =
     let done = c.loop-done.done in
     let all = c.args.bytes.now in
-    let joined = take_more done c.in-Ok.more (length all - done) all (search rules) in
-    (search rules, subst (Appends _ _) joined (Appends-trans _ _ _ _ _ c.loop-done.invariant.1 c.in-Ok.ensures.bytes))
+    let joined = take_more done c.in_ok-more.more (length all - done) all (search rules) in
+    (search rules, subst (Appends _ _) joined (Appends-trans _ _ _ _ _ c.loop-done.invariant.1 c.in_ok-more.ensures.bytes))
