@@ -5,9 +5,9 @@ use Rattle.record_bytes.specs.Held.{with_record}
 use Rattle.record_bytes.proofs.Held.{held_after}
 use Rattle.record_bytes.proofs.put_record.Goals as goal
 
-pub returns-then-b-eq-RECORD_BYTES : goal.returns-then-b-eq-RECORD_BYTES
-returns-then-b-eq-RECORD_BYTES c = c.encode.ensures ∙ sym (held_after _ c.if-b-eq-RECORD_BYTES.true _)
+pub returns-in-Some : goal.returns-in-Some
+returns-in-Some c = c.encode.ensures ∙ sym (held_after _ c.in-Some.ensures.cases.long _)
 
-pub returns-else-b-eq-RECORD_BYTES : goal.returns-else-b-eq-RECORD_BYTES
+pub returns-in_default : goal.returns-in_default
 unfolding with_record
-returns-else-b-eq-RECORD_BYTES c = rw (ne_eqb _ _ c.if-b-eq-RECORD_BYTES.false) refl
+returns-in_default c = rw (ne_eqb _ _ c.in_default.ensures.cases) refl

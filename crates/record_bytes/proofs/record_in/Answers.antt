@@ -1,16 +1,16 @@
 -- 680 bytes are decoded, others give a fresh record.
-use mathlib.Core.Path.{sym, ◌∙◌}
+use mathlib.Core.Path.{sym, ap, ◌∙◌}
 use borrow.Author.Tests.{ne_eqb}
+use Rattle.firmware_rules.specs.Bytes.{decoded}
 use Rattle.record_bytes.specs.Held.{record_in}
 use Rattle.record_bytes.proofs.Held.{held}
 use Rattle.record_bytes.proofs.record_in.Goals as goal
 
-pub decode-requires : goal.decode-requires
-decode-requires c = c.if-b-eq-RECORD_BYTES.true
+pub returns-in-Some : goal.returns-in-Some
+returns-in-Some c =
+    let whole = c.in-Some.ensures.cases in
+    c.decode.ensures ∙ ap decoded whole.same ∙ sym (held _ whole.long)
 
-pub returns-then-b-eq-RECORD_BYTES : goal.returns-then-b-eq-RECORD_BYTES
-returns-then-b-eq-RECORD_BYTES c = c.decode.ensures ∙ sym (held _ c.if-b-eq-RECORD_BYTES.true)
-
-pub returns-else-b-eq-RECORD_BYTES : goal.returns-else-b-eq-RECORD_BYTES
+pub returns-in-None : goal.returns-in-None
 unfolding record_in
-returns-else-b-eq-RECORD_BYTES c = rw (ne_eqb _ _ c.if-b-eq-RECORD_BYTES.false) c.fresh_recorder.ensures
+returns-in-None c = rw (ne_eqb _ _ c.in-None.ensures.cases) c.fresh_recorder.ensures
