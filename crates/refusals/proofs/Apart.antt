@@ -1,5 +1,5 @@
 -- Refusals are told apart by their numbers: the refusal can be found again from its number.
-use Rattle.std.proofs.Common.{ℕ, ◌-◌, [], ◌∷◌, get_or, ◌≡◌, refl, sym, ap, ◌∙◌}
+use Rattle.std.proofs.Common.{ℕ, ◌-◌, [], ◌∷◌, get_or, ◌≡◌, ◌<◌, arith, refl, sym, ap, ◌∙◌}
 use Rattle.refusals.specs.declared.Refusal.{Refusal}
 use Rattle.refusals.specs.declared.Refusal.TheVariants.{OutOfRange, NegativeSlack, NoForm, BadReading, NoSuchObserver, BadCounter, NoRound, OtherRound, BadLine, WrongRoom}
 use Rattle.refusals.specs.Refusals.{number_of, ToldApart}
@@ -24,3 +24,19 @@ refusal_found WrongRoom = refl
 
 pub told_apart_lem : ToldApart
 told_apart_lem r r' e = sym (refusal_found r) ∙ ap refusal_at e ∙ refusal_found r'
+
+-- no refusal has the number 0, which says that nothing is refused
+pub some_number : (r : Refusal) → number_of r ≡ 0 → ⊥
+some_number r e = omega (arith, e, positive r)
+  where
+    positive : (r : Refusal) → 0 < number_of r
+    positive OutOfRange = omega arith
+    positive NegativeSlack = omega arith
+    positive NoForm = omega arith
+    positive BadReading = omega arith
+    positive NoSuchObserver = omega arith
+    positive BadCounter = omega arith
+    positive NoRound = omega arith
+    positive OtherRound = omega arith
+    positive BadLine = omega arith
+    positive WrongRoom = omega arith

@@ -3,47 +3,36 @@ use Prim.Native.Nat.{ℕ, zero, suc, ◌+◌, ◌*◌, ◌<◌, ◌≤◌}
 use native.Mathlib.Omega.{arith}
 use native.Mathlib.Nat.{not-suc-le-zero, le_of_suc-le-suc}
 use mathlib.Core.Path.{◌≡◌, refl, sym, ap, ◌∙◌}
-use mathlib.Core.Bool.{Bool, true, false, ◌&&◌, ◌||◌, and_assoc, and-true}
+use mathlib.Core.Bool.{Bool, true, false, ◌&&◌, ◌||◌}
 use mathlib.Core.List.{List, [], ◌∷◌}
 use lib.Dec.{lit<}
 use lib.IntN.{ℤ, pos, ◌-ℤ◌}
-use lib.ListN.{length, get_or, drop, drop_of_length-le}
-use borrow.Author.Tests.{leb-true, ltb-false, not-false}
+use lib.ListN.{length, get_or}
+use Rattle.std.specs.Prelude.{if◌then◌else◌, not}
+use borrow.Author.Tests.{ne_eqb, leb-true, ltb-false, not-false}
 use Rattle.words.specs.Tests.{◌<?◌, ◌≤?◌}
 use Rattle.words.proofs.Booleans.{both_hold, neither_holds}
-use Rattle.words.proofs.Walks.{next}
-use Rattle.words.proofs.Said.{none_applies, told_apart}
-use Rattle.words.specs.Lists.{every}
-use Rattle.words.specs.Said.{Said}
-use Rattle.words.specs.Said.Said.{refusal, gives}
+use Rattle.words.proofs.Said.{none_applies}
+use Rattle.words.specs.Said.{first, refused}
+use Rattle.words.specs.Said.Said.{gives}
+use Rattle.refusals.proofs.Results.{same_given, same_refused, given_or_refused}
+use Rattle.settings.specs.declared.Slacks.{Slacks}
+use Rattle.settings.specs.Answers.{three, slacks_of, judged}
 use Rattle.settings.specs.declared.Settings.{Settings}
 use Rattle.settings.specs.declared.Range.{Range}
-use Rattle.settings.specs.declared.Judged.{Judged}
-use Rattle.settings.specs.declared.Judged.TheVariants.{Accepted as AcceptedWith, Refused}
-use Rattle.settings.specs.declared.Slacks.{Slacks}
-use Rattle.settings.specs.declared.Slacks.TheVariants.{Of, Refused as OutOfRange}
+use Rattle.std.specs.List.{list_all}
+use Rattle.std.specs.Prelude.{zip}
 use Rattle.settings.specs.Settings.{n, t, η, Δ, P, O, rounding, ranges, values, each_in, in_range, slack_a, slack_b, slack_c, negative, refusal_of, window, ◌to◌}
 use Rattle.settings.specs.Parts.{InRange}
-use Rattle.settings.specs.Answers.{Values, Three, said_of, said_of_slacks}
 use Rattle.settings.proofs.Signed.{less_sum, below_zero}
 
--- one row more of the table
-pub each_more : (rows : List Range) (xs : List ℕ) (i : ℕ) {all : Bool} (ok : Bool) → i < length rows → i < length xs
-    → all ≡ (ok && each_in (drop i rows) (drop i xs))
-    → all ≡ (ok && ((get_or rows i (0 to 0)).least ≤? get_or xs i 0) && (get_or xs i 0 ≤? (get_or rows i (0 to 0)).greatest) && each_in
-    (drop (i + 1) rows) (drop (i + 1) xs))
+-- the rows and their values, one beside the other
+pub each_zipped : (rows : List Range) (xs : List ℕ)
+    → each_in rows xs ≡ list_all (λ p. (p.0.least ≤? p.1) && (p.1 ≤? p.0.greatest)) (zip rows xs)
 unfolding each_in
-each_more rows xs i ok h k e =
-    let l = (get_or rows i (0 to 0)).least ≤? get_or xs i 0 in
-    let g = get_or xs i 0 ≤? (get_or rows i (0 to 0)).greatest in
-    let rest = each_in (drop (i + 1) rows) (drop (i + 1) xs) in
-    e ∙ rw (next (0 to 0) rows i h, next 0 xs i k)
-    (sym (ap (λ (b : Bool). b && rest) (and_assoc ok l g) ∙ and_assoc ok (l && g) rest))
-
-pub each_done : (rows : List Range) (xs : List ℕ) (i : ℕ) {all : Bool} (ok : Bool) → length rows ≤ i
-    → all ≡ (ok && each_in (drop i rows) (drop i xs)) → ok ≡ all
-unfolding each_in
-each_done rows xs i ok h e = sym (e ∙ rw (drop_of_length-le rows {i = i} h) (and-true ok))
+each_zipped [] xs = refl
+each_zipped (row ∷ rows) [] = refl
+each_zipped (row ∷ rows) (x ∷ xs) = ap (◌&&◌ ((row.least ≤? x) && (x ≤? row.greatest))) (each_zipped rows xs)
 
 -- values that passed lie in their rows: the first row, and by the row's number
 first_row : (row : Range) (x : ℕ) (rows : List Range) (xs : List ℕ) → each_in (row ∷ rows) (x ∷ xs) ≡ true
@@ -143,27 +132,36 @@ pub window_law : (s : Settings) → refusal_of s ≡ 0 → window s + 3 * roundi
 unfolding window
 window_law s e = let slack = accepted s e in omega arith
 
--- answers that say the same are the same
-abbrev judged_back : Said Values → Judged
-judged_back (refusal k values) = Refused k
-judged_back (gives v) = AcceptedWith v.W v.slacks.a v.slacks.b v.slacks.c
+-- settings that have no slacks are refused for what they have none for; those that have are in range
+module _ (s : Settings) where
+  pub without_slacks : {k : ℕ} → refused k ≡ slacks_of s → k ≡ refusal_of s
+  unfolding refusal_of slacks_of first
+  without_slacks {k} = by (in_range s) (three s) _
+    where
+      by : (b : Bool) (v : Slacks) (rest : ℕ) → refused k ≡ (if b then gives v else refused 1) → k ≡ (if not b then 1 else rest)
+      by true v rest e = given_or_refused (sym e)
+      by false v rest e = same_refused e
 
-pub judged_apart : {j j' : Judged} → said_of j ≡ said_of j' → j ≡ j'
-unfolding said_of
-judged_apart = told_apart said_of judged_back same
-  where
-    same : (j : Judged) → judged_back (said_of j) ≡ j
-    same (AcceptedWith W a b c) = refl
-    same (Refused k) = refl
+  pub with_slacks : {v : Slacks} → gives v ≡ slacks_of s → (in_range s ≡ true) × (v ≡ three s)
+  unfolding slacks_of
+  with_slacks {v} = by (in_range s)
+    where
+      by : (b : Bool) → gives v ≡ (if b then gives (three s) else refused 1) → (b ≡ true) × (v ≡ three s)
+      by true e = (refl, same_given e)
+      by false e = given_or_refused e
 
-abbrev slacks_back : Said Three → Slacks
-slacks_back (refusal k values) = OutOfRange k
-slacks_back (gives v) = Of v.a v.b v.c
+  -- in range, it is the slacks that decide
+  pub by_slacks : {v : Slacks} → gives v ≡ slacks_of s
+      → refusal_of s ≡ (if negative v.a || negative v.b || negative v.c then 2 else 0)
+  unfolding refusal_of first
+  by_slacks e = let of_s = with_slacks e in rw (of_s.0, of_s.1)
 
-pub slacks_apart : {j j' : Slacks} → said_of_slacks j ≡ said_of_slacks j' → j ≡ j'
-unfolding said_of_slacks
-slacks_apart = told_apart said_of_slacks slacks_back same
-  where
-    same : (j : Slacks) → slacks_back (said_of_slacks j) ≡ j
-    same (Of a b c) = refl
-    same (OutOfRange k) = refl
+  -- what the settings answer, by their refusal
+  pub judged_refused : {k : ℕ} → (k ≡ 0 → ⊥) → k ≡ refusal_of s → refused k ≡ judged s
+  unfolding judged
+  judged_refused some e = rw (← e, ne_eqb _ 0 some)
+
+  pub judged_accepted : {v : Slacks} → 0 ≡ refusal_of s → gives v ≡ slacks_of s
+      → gives (record { window = window s; slacks = v }) ≡ judged s
+  unfolding judged
+  judged_accepted none e = rw (← none, (with_slacks e).1)

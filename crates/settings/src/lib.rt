@@ -2,9 +2,15 @@
 #![tactic(auto)]
 
 ghost use Rattle.std.specs.Prelude.{◌≡◌, ◌<◌, ◌^◌, ◌-◌, pos, ◌-ℤ◌};
-ghost use Rattle.settings.specs.Settings.{settings_of, rounding, in_range, slack_a, slack_b, slack_c, window, refusal_of, negative};
+ghost use Rattle.refusals.specs.Refusals.{number_in, said_in};
+ghost use Rattle.settings.specs.Settings.{settings_of, rounding, each_in, in_range, window, refusal_of, negative};
+ghost use Rattle.std.specs.List.{list_all};
+ghost use Rattle.std.specs.Prelude.{zip, ◌&&◌, ◌||◌};
+ghost use Rattle.words.specs.Tests.{◌≤?◌};
+ghost use Rattle.settings.specs.Answers.{judged, slacks_of, three};
 ghost use Rattle.settings.specs.Parts.{InRange};
-ghost use Rattle.settings.specs.Answers.{said_of, judged, said_of_slacks, slacks_of};
+
+use refusals::Refusal;
 
 #[derive(Clone, Copy)]
 pub struct Settings {
@@ -67,21 +73,23 @@ const RANGES: [Range; 7] = [
     },
 ];
 
-// The settings' own answer.
+// The three slacks, of which each may be below zero.
 #[derive(Clone, Copy)]
-pub enum Judged {
-    Accepted { window: u64, a: i64, b: i64, c: i64 },
-    Refused(u32),
+pub struct Slacks {
+    pub a: i64,
+    pub b: i64,
+    pub c: i64,
 }
 
-// The slacks of settings in range, refused or not.
+// The settings' own answer, where they are not refused.
 #[derive(Clone, Copy)]
-pub enum Slacks {
-    Of { a: i64, b: i64, c: i64 },
-    Refused(u32),
+pub struct Accepted {
+    pub window: u64,
+    pub slacks: Slacks,
 }
 
 // The settings from their seven numbers in a row.
+// Kept: a function and no `From`, since SettingsSettled of `settled` has a row for it.
 pub fn settings_of(values: [u64; 7]) -> Settings
     ensures { result ≡ settings_of values }
 {
@@ -96,6 +104,16 @@ pub fn settings_of(values: [u64; 7]) -> Settings
     }
 }
 
+// Does each value lie in its row?
+#[tactic(auto, using(crate::proofs::Laws::each_zipped))]
+fn each_in(rows: &[Range; 7], values: &[u64; 7]) -> bool
+    ensures { result ≡ list_all (λ p. (p.0.least ≤? p.1) && (p.1 ≤? p.0.greatest)) (zip rows.now values.now) }
+{
+    rows.iter()
+        .zip(values.iter())
+        .all(|(row, x)| (row.least <= *x) & (*x <= row.greatest))
+}
+
 fn in_range(s: Settings) -> bool
     ensures { result ≡ in_range s }
 {
@@ -108,13 +126,7 @@ fn in_range(s: Settings) -> bool
         s.observer_lease,
         s.grain,
     ];
-    let mut ok = true;
-    for i in 0..7 {
-        let row = RANGES[i];
-        let x = values[i];
-        ok = ok & (row.least <= x) & (x <= row.greatest);
-    }
-    ok & (s.survival <= s.observers)
+    each_in(&RANGES, &values) & (s.survival <= s.observers)
 }
 
 // The difference of two numbers, exact on either side of zero.
@@ -125,80 +137,63 @@ fn difference(x: u64, y: u64) -> i64
     (x as i64) - (y as i64)
 }
 
-fn is_negative(x: i64) -> bool
-    ensures { result ≡ negative x }
-{
-    x < 0
-}
-
 // x - y, or 0 where y is the greater: no record, whatever its numbers, makes a difference wrap.
 pub fn less(x: u64, y: u64) -> u64
     ensures { result ≡ x - y }
 {
-    if y <= x { x - y } else { 0 }
+    x.saturating_sub(y)
 }
 
 // By how much a reading can lie below its clock: G - 1.
 fn rounding_of(s: Settings) -> u64
     ensures { result ≡ rounding s }
 {
-    less(s.grain, 1)
+    s.grain.saturating_sub(1)
 }
 
-fn slack_a(s: Settings) -> i64
+fn slacks_within(s: Settings) -> Slacks
     requires { InRange s }
-    ensures { result ≡ slack_a s }
+    ensures { result ≡ three s }
 {
-    difference(
-        s.recorder_lease,
-        s.interval + s.timeliness + 2 * rounding_of(s) + 1,
-    )
-}
-
-fn slack_b(s: Settings) -> i64
-    requires { InRange s }
-    ensures { result ≡ slack_b s }
-{
-    difference(
-        s.observer_lease,
-        s.recorder_lease + s.timeliness + 4 * rounding_of(s),
-    )
-}
-
-fn slack_c(s: Settings) -> i64
-    requires { InRange s }
-    ensures { result ≡ slack_c s }
-{
-    difference((MOST_LEASES as u64) * s.interval, s.recorder_lease)
-}
-
-// The slacks of settings in range; 1 for others.
-pub fn slacks_of(s: Settings) -> Slacks
-    ensures { said_of_slacks result ≡ slacks_of s }
-{
-    if in_range(s) {
-        Slacks::Of {
-            a: slack_a(s),
-            b: slack_b(s),
-            c: slack_c(s),
-        }
-    } else {
-        Slacks::Refused(1)
+    let rounding = rounding_of(s);
+    Slacks {
+        a: difference(
+            s.recorder_lease,
+            s.interval + s.timeliness + 2 * rounding + 1,
+        ),
+        b: difference(
+            s.observer_lease,
+            s.recorder_lease + s.timeliness + 4 * rounding,
+        ),
+        c: difference((MOST_LEASES as u64) * s.interval, s.recorder_lease),
     }
 }
 
-// The refusal's number, 1 or 2, or 0.
-pub fn refusal(s: Settings) -> u32
-    ensures { result ≡ refusal_of s }
+// The slacks of settings in range; others are refused.
+pub fn slacks_of(s: Settings) -> Result<Slacks, Refusal>
+    ensures { said_in result ≡ slacks_of s }
 {
     if !in_range(s) {
-        return 1;
+        return Err(Refusal::OutOfRange);
     }
-    if is_negative(slack_a(s)) | is_negative(slack_b(s)) | is_negative(slack_c(s)) {
-        2
-    } else {
-        0
+    Ok(slacks_within(s))
+}
+
+fn has_negative(slacks: Slacks) -> bool
+    ensures { result ≡ (negative slacks.a || negative slacks.b || negative slacks.c) }
+{
+    (slacks.a < 0) | (slacks.b < 0) | (slacks.c < 0)
+}
+
+// Are the settings accepted? The refusal, if not.
+pub fn accept(s: Settings) -> Result<(), Refusal>
+    ensures { number_in result ≡ refusal_of s }
+{
+    let slacks = slacks_of(s)?;
+    if has_negative(slacks) {
+        return Err(Refusal::NegativeSlack);
     }
+    Ok(())
 }
 
 // The round window W, for any seven numbers.
@@ -206,23 +201,21 @@ pub fn round_window(s: Settings) -> u64
     ensures { result ≡ window s }
 {
     let rounding = rounding_of(s);
-    let once = less(less(s.observer_lease, s.recorder_lease), rounding);
-    less(less(once, rounding), rounding)
+    let once = s
+        .observer_lease
+        .saturating_sub(s.recorder_lease)
+        .saturating_sub(rounding);
+    once.saturating_sub(rounding).saturating_sub(rounding)
 }
 
-// The settings' answer: accepted with W and the slacks, or refused.
-#[tactic(auto, unfolding(crate::specs::Answers::said_of, crate::specs::Answers::judged))]
-pub fn judge(s: Settings) -> Judged
-    ensures { said_of result ≡ judged s }
+// The settings' answer: W and the slacks of accepted settings, or the refusal.
+pub fn judge(s: Settings) -> Result<Accepted, Refusal>
+    ensures { said_in result ≡ judged s }
 {
-    let number = refusal(s);
-    if number != 0 {
-        return Judged::Refused(number);
-    }
-    Judged::Accepted {
+    accept(s)?;
+    let slacks = slacks_of(s)?;
+    Ok(Accepted {
         window: round_window(s),
-        a: slack_a(s),
-        b: slack_b(s),
-        c: slack_c(s),
-    }
+        slacks,
+    })
 }

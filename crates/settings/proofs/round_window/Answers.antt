@@ -1,7 +1,5 @@
 -- `settings::round_window` meets its contract: rounding is taken away three times.
-use Prim.Native.Nat.{ℕ, ◌-◌, ◌*◌}
-use native.Mathlib.Omega.{arith}
-use mathlib.Core.Path.{◌≡◌}
+use Rattle.std.proofs.Common.{ℕ, ◌-◌, ◌*◌, ◌≡◌, arith}
 use Rattle.settings.specs.Settings.{window}
 use Rattle.settings.proofs.round_window.Goals as goal
 
@@ -13,9 +11,9 @@ pub returns : goal.returns
 unfolding window
 returns c =
     rw (
-      c.less-3.ensures,
-      c.before.less-2.ensures,
-      c.before.before.less-once.ensures,
-      c.before.before.before.less.ensures,
-      c.before.before.before.before.rounding_of-rounding.ensures,
+      c.saturating_sub-3.ensures,
+      c.saturating_sub-2.ensures,
+      c.saturating_sub-once.ensures,
+      c.saturating_sub.ensures,
+      c.rounding_of-rounding.ensures,
     ) (thrice _ _)
