@@ -22,6 +22,7 @@ fn words_at<const N: usize>(b: &[u8]) -> [u64; N]
     ensures { result ≡ words_at N b.now }
 {
     let (chunks, _) = b.as_chunks::<8>();
+    // Kept: tried, the proof did not close: `from_fn` says nothing of what its closure captures where N is a parameter.
     let mut words = [0u64; N];
     for (i, word) in words.iter_mut().enumerate() {
         *word = u64::from_le_bytes(chunks[i]);
@@ -57,6 +58,7 @@ fn put_word(b: &mut [u8], at: usize, word: u64)
 }
 
 // Puts words behind one another from `at` on.
+#[tactic(auto, using(fields::proofs::Rooms::put_nothing, firmware_rules::proofs::Words::puts_next), unfolding(firmware_rules::specs::Bytes::bytes_of))]
 fn put_words(b: &mut [u8], at: usize, words: &[u64])
     requires { at + 8 * length words.now ≤ length b.old }
     ensures { b.new ≡ put_at b.old at (bytes_of words.now) }
@@ -66,6 +68,7 @@ fn put_words(b: &mut [u8], at: usize, words: &[u64])
     }
 }
 
+#[tactic(auto, using(crate::proofs::Whole::parts_put), unfolding(firmware_rules::specs::Bytes::encoded))]
 fn encode(b: &mut [u8; RECORD_BYTES], rec: &Recorder)
     ensures { b.new ≡ encoded rec.now }
 {
@@ -85,16 +88,18 @@ fn encode(b: &mut [u8; RECORD_BYTES], rec: &Recorder)
 }
 
 // The record that a buffer holds. One of another length holds none: a fresh record is given.
+#[tactic(auto, unfolding(crate::specs::Held::record_in))]
 pub fn record_in(b: &[u8]) -> Recorder
     ensures { result ≡ record_in b.now }
 {
-    match b.as_array() {
-        Some(whole) => decode(whole),
-        None => fresh_recorder(),
-    }
+    let Some(whole) = b.as_array() else {
+        return fresh_recorder();
+    };
+    decode(whole)
 }
 
 // Puts the record into a buffer. One of another length has no room for it and is left alone.
+#[tactic(auto, unfolding(crate::specs::Held::with_record))]
 pub fn put_record(b: &mut [u8], rec: Recorder)
     ensures { b.new ≡ with_record b.old rec }
 {
