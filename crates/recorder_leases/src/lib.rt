@@ -14,6 +14,7 @@ use recorder_rules::Recorder;
 use settings::{MOST_LEASES, MOST_OBSERVERS, Settings};
 
 // The open leases that have not ended, in their places.
+// Kept: a count beside the places, as in the record that they go into: the C interface.
 #[derive(Clone, Copy)]
 struct Left {
     count: u64,
