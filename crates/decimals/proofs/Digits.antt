@@ -1,6 +1,6 @@
 -- Laws of `digits`, each proved once over the count of digits.
 use Rattle.std.specs.Prelude.{if◌then◌else◌}
-use Prim.Native.Nat.{ℕ, zero, suc, ◌+◌, ◌/◌, ◌%◌, ◌^◌, ◌≤◌, ◌<◌}
+use Prim.Native.Nat.{ℕ, zero, suc, ◌+◌, ◌*◌, ◌/◌, ◌%◌, ◌^◌, ◌≤◌, ◌<◌}
 use native.Mathlib.Nat.{div-lt_iff_lt-mul, pow-suc}
 use native.Mathlib.Omega.{arith}
 use mathlib.Core.Path.{◌≡◌, refl, sym, ap, ◌∙◌}
@@ -99,3 +99,27 @@ digits_all n = (all_digits 20 n).1
 -- at least one digit
 pub digits_some : (n : ℕ) → n < 2 ^ 64 → 1 ≤ length (digits n)
 digits_some n b = by_size n (λ l. omega (arith, count_one n l)) (λ l. omega (arith, count_more n l b))
+
+power_some : (k : ℕ) → 1 ≤ 10 ^ k
+power_some zero = omega arith
+power_some (suc k) = rw (pow-suc 10 k) (let h = power_some k in omega arith)
+
+-- a number has reached a power of ten: it has a digit more than the power says
+count_least : (places k n : ℕ) → k < places → 10 ^ k ≤ n → suc k ≤ length (digits_in places n)
+count_least zero k n h m = omega arith
+count_least (suc places) zero n h m =
+    by_size n (λ l. rw (one_digit places n l) (omega arith))
+    (λ l. rw (last_digit places n l, length-append (digits_in places (n / 10)) ((48 + n % 10) ∷ [])) (omega arith))
+count_least (suc places) (suc k) n h m =
+    let times = rw (pow-suc 10 k) at m in
+    let part : 10 ^ k ≤ n / 10 = omega arith in
+    let least : 1 ≤ 10 ^ k = power_some k in
+    let big : 10 ≤ n = omega arith in
+    let before : suc k ≤ length (digits_in places (n / 10)) = count_least places k (n / 10) (omega arith) part in
+    rw (last_digit places n big, length-append (digits_in places (n / 10)) ((48 + n % 10) ∷ [])) (omega arith)
+
+pub count_by_power : (k n : ℕ) → k < 20 → 10 ^ k ≤ n → n < 10 * 10 ^ k → length (digits n) ≡ k + 1
+unfolding digits
+count_by_power k n h l m =
+    let most : n < 10 ^ suc k = rw (pow-suc 10 k) (omega arith) in
+    omega (arith, count_least 20 k n h l, count_in 20 k n most)

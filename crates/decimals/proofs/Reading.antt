@@ -7,21 +7,21 @@ use mathlib.Core.Path.{◌≡◌, refl, sym, ap, ◌∙◌}
 use mathlib.Core.Bool.{Bool, true, false, ◌&&◌, ◌||◌, not}
 use mathlib.Core.List.{List, [], ◌∷◌, ◌++◌, append_assoc}
 use lib.Dec.{leb}
-use lib.ListN.{length, get_or, drop, length-append}
+use lib.ListN.{length, get_or, drop, length-append, drop_of_length-le}
 use lib.Seq.{drop-append_seam}
 use borrow.Author.Tests.{le-ltb, leb-true, eq-eqb, ltb-false, le-leb, ne_eqb, eqb-true, eqb-false}
 use Rattle.words.specs.Tests.{◌<?◌, ◌=?◌}
 use Rattle.words.proofs.Booleans.{not_both, both_hold, neither_holds}
-use Rattle.decimals.specs.declared.Number.TheVariants.{Value, Bad}
-use Rattle.decimals.specs.Decimals.{is_digit, digits_in, digits, read_on, number_at}
+use Rattle.decimals.specs.declared.Number.{Number}
+use Rattle.decimals.specs.Decimals.{is_digit, digits_in, digits, number, no_number, read_on, number_at}
 use Rattle.decimals.proofs.Digits.{by_size, tenth, one_digit, last_digit, digits_one, digits_more}
 
 -- ---- what the loop goes by
 
 pub first_byte : (allowed : Bool) (greatest : ℕ) (s : List ℕ)
     → number_at allowed greatest s
-    ≡ (if not (is_digit (get_or s 0 0)) then Bad 0
-    else (if ((get_or s 0 0 - 48 =? 0) && not allowed) || (greatest <? get_or s 0 0 - 48) then Bad 0
+    ≡ (if not (is_digit (get_or s 0 0)) then no_number 0
+    else (if ((get_or s 0 0 - 48 =? 0) && not allowed) || (greatest <? get_or s 0 0 - 48) then no_number 0
     else read_on greatest (get_or s 0 0 - 48) 1 (drop 1 s)))
 unfolding number_at
 first_byte allowed greatest [] = refl
@@ -29,8 +29,8 @@ first_byte allowed greatest (byte ∷ bytes) = refl
 
 pub next_byte : (greatest value i : ℕ) (s : List ℕ) (at : ℕ)
     → read_on greatest value i (drop at s)
-    ≡ (if not (is_digit (get_or s at 0)) then Value value i
-    else (if (value =? 0) || (greatest <? value * 10 + (get_or s at 0 - 48)) then Bad i
+    ≡ (if not (is_digit (get_or s at 0)) then number value i
+    else (if (value =? 0) || (greatest <? value * 10 + (get_or s at 0 - 48)) then no_number i
     else read_on greatest (value * 10 + (get_or s at 0 - 48)) (i + 1) (drop (at + 1) s)))
 unfolding read_on
 next_byte greatest value i [] zero = refl
@@ -38,6 +38,12 @@ next_byte greatest value i [] (suc at) = refl
 next_byte greatest value i (byte ∷ bytes) zero = refl
 next_byte greatest value i (byte ∷ bytes) (suc at) =
     rw (add-one (suc at)) (rw (add-one at) at (next_byte greatest value i bytes at))
+
+-- nothing is left to read on
+pub read_end : (greatest value i : ℕ) (s : List ℕ) → length s ≡ i
+    → read_on greatest value i (drop i s) ≡ number value (length s)
+unfolding read_on
+read_end greatest value i s e = rw (e, drop_of_length-le s {i = i} (omega arith))
 
 pub digit_within : (s : List ℕ) (i : ℕ) → is_digit (get_or s i 0) ≡ true → i < length s
 digit_within [] zero e = absurd (not_both e refl)
@@ -100,7 +106,7 @@ digits_start (suc k) n allowed greatest rest h m z =
 
 -- a number that is written is read back as itself, whatever follows that is no digit
 pub digits_read : (n : ℕ) (allowed : Bool) (greatest : ℕ) (rest : List ℕ) → n < 2 ^ 64 → n ≤ greatest → (n ≡ 0 → allowed ≡ true)
-    → is_digit (get_or rest 0 0) ≡ false → number_at allowed greatest (digits n ++ rest) ≡ Value n (length (digits n))
+    → is_digit (get_or rest 0 0) ≡ false → number_at allowed greatest (digits n ++ rest) ≡ number n (length (digits n))
 unfolding digits
 digits_read n allowed greatest rest b m z e =
     digits_start 19 n allowed greatest rest (omega arith) m z ∙ next_byte greatest n (length (digits_in 20 n)) rest 0 ∙ rw e
@@ -119,14 +125,16 @@ record Going (greatest value : ℕ) (s : List ℕ) (n k : ℕ) : Type 0 where
   most : n ≤ greatest
   nonzero : n ≡ 0 → value ≡ 0
 
-value_path : {a b i k : ℕ} → Value a i ≡ Value b k → (a ≡ b) × (i ≡ k)
-value_path e = (cc, cc)
+value_path : {a b i k : ℕ} → number a i ≡ number b k → (a ≡ b) × (i ≡ k)
+value_path {a} {b} {i} {k} e =
+    let same : ◌≡◌ {A = Number} (record { value = a; length = i }) (record { value = b; length = k }) = cc in
+    (ap (λ (n : Number). n.value) same, ap (λ (n : Number). n.length) same)
 
-no_value : {A : Type 0} {i n k : ℕ} → Bad i ≡ Value n k → A
+no_value : {A : Type 0} {i n k : ℕ} → no_number i ≡ number n k → A
 no_value e = let z : ◌≡◌ {A = ℕ} 0 1 = cc in absurd (let w : 0 ≡ 1 = z in omega arith)
 
 stop : (greatest value n i k : ℕ) (done bytes : List ℕ) → done ≡ digits value → i ≡ length done → value ≤ greatest
-    → Value value i ≡ Value n k → Going greatest value (done ++ bytes) n k
+    → number value i ≡ number n k → Going greatest value (done ++ bytes) n k
 stop greatest value n i k done bytes d c m e =
     let p = value_path e in
     record {
@@ -147,7 +155,7 @@ extended value byte done d nz l h b =
 
 going : (greatest n k : ℕ) → greatest < 2 ^ 64 → (bytes : List ℕ) (value i : ℕ) (done : List ℕ) → done ≡ digits value
     → i ≡ length done
-    → value ≤ greatest → read_on greatest value i bytes ≡ Value n k → Going greatest value (done ++ bytes) n k
+    → value ≤ greatest → read_on greatest value i bytes ≡ number n k → Going greatest value (done ++ bytes) n k
 unfolding read_on
 going greatest n k b [] value i done d c m e = stop greatest value n i k done [] d c m e
 going greatest n k b (byte ∷ bytes) value i done d c m e =
@@ -155,11 +163,11 @@ going greatest n k b (byte ∷ bytes) value i done d c m e =
     (going greatest n k b bytes (value * 10 + (byte - 48)) (i + 1) (done ++ (byte ∷ [])))
   where
     by : (a : Bool) → is_digit byte ≡ a → (t : Bool) → ((value =? 0) || (greatest <? value * 10 + (byte - 48))) ≡ t
-        → (if not a then Value value i else (if t then Bad i else read_on greatest (value * 10 + (byte - 48)) (i + 1) bytes)) ≡ Value
+        → (if not a then number value i else (if t then no_number i else read_on greatest (value * 10 + (byte - 48)) (i + 1) bytes)) ≡ number
         n k
         → (done ++ (byte ∷ []) ≡ digits (value * 10 + (byte - 48)) → i + 1 ≡ length (done ++ (byte ∷ []))
         → value * 10 + (byte - 48) ≤ greatest
-        → read_on greatest (value * 10 + (byte - 48)) (i + 1) bytes ≡ Value n k
+        → read_on greatest (value * 10 + (byte - 48)) (i + 1) bytes ≡ number n k
         → Going greatest (value * 10 + (byte - 48)) ((done ++ (byte ∷ [])) ++ bytes) n k)
         → Going greatest value (done ++ (byte ∷ bytes)) n k
     by false p t q e f = stop greatest value n i k done (byte ∷ bytes) d c m e
@@ -181,7 +189,7 @@ going greatest n k b (byte ∷ bytes) value i done d c m e =
 
 -- a number that is read is, byte for byte, what writing its value gives
 pub read_digits : (allowed : Bool) (greatest : ℕ) (s : List ℕ) (n k : ℕ) → greatest < 2 ^ 64
-    → number_at allowed greatest s ≡ Value n k
+    → number_at allowed greatest s ≡ number n k
     → IsNumber allowed greatest s n k
 unfolding number_at
 read_digits allowed greatest [] n k b e = no_value e
@@ -193,7 +201,7 @@ read_digits allowed greatest (byte ∷ bytes) n k b e =
     allows false e z = absurd (not_both (rw (eq-eqb (byte - 48) 0 z)) e)
 
     by : (a : Bool) → is_digit byte ≡ a → (t : Bool) → (((byte - 48 =? 0) && not allowed) || (greatest <? byte - 48)) ≡ t
-        → (if not a then Bad 0 else (if t then Bad 0 else read_on greatest (byte - 48) 1 bytes)) ≡ Value n k
+        → (if not a then no_number 0 else (if t then no_number 0 else read_on greatest (byte - 48) 1 bytes)) ≡ number n k
         → IsNumber allowed greatest (byte ∷ bytes) n k
     by false p t q e = no_value e
     by true p true q e = no_value e

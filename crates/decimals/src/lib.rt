@@ -1,95 +1,93 @@
 // Decimal numbers as bytes: read from the front of a slice, counted, and written into lent room. Serves rule 6.1.
 #![tactic(auto)]
 
-ghost use Rattle.std.specs.Prelude.{◌≡◌, ◌++◌, ◌+◌, ◌*◌, ◌≤◌, length, drop, get_or};
+ghost use Rattle.std.specs.Prelude.{◌≡◌, ◌++◌, ◌+◌, ◌-◌, ◌*◌, ◌<◌, ◌≤◌, length, drop, get_or, Some, None, if◌then◌else◌};
 ghost use Rattle.words.specs.Tests.{◌<?◌};
 ghost use Rattle.fields.specs.Places.{put_at, next_place};
 ghost use Rattle.decimals.specs.Decimals.{is_digit, digits, read_on, number_at};
 
-// What stands where a number should: its value and how many bytes it takes, or the place of the first byte at which
-// no number could go on.
+// A number that was read: its value and how many bytes it takes.
 #[derive(Clone, Copy)]
-pub enum Number {
-    Value(u64, usize),
-    Bad(usize),
+pub struct Number {
+    pub value: u64,
+    pub length: usize,
 }
 
-fn wide(byte: u8) -> u64
-    ensures { result ≡ byte }
-{
-    byte as u64
+// No number where one should stand: the place of the first byte at which none could go on.
+#[derive(Clone, Copy)]
+pub struct NoNumber {
+    pub place: usize,
 }
 
-// Does a digit stand at `i`?
-fn digit_at(s: &[u8], i: usize) -> bool
-    ensures { result ≡ is_digit (get_or s.now i 0) }
+// The digit that the byte is, if it is one.
+fn digit_of(byte: u8) -> Option<u64>
+    ensures { result ≡ (if is_digit byte then Some (byte - 48) else None) }
 {
-    if i < s.len() {
-        let byte = s[i];
-        (48 <= byte) & (byte <= 57)
+    if byte.is_ascii_digit() {
+        Some(u64::from(byte - b'0'))
     } else {
-        false
+        None
     }
 }
 
-// Would `value` with one digit more pass `greatest`? The product must not wrap.
-fn passes(value: u64, digit: u64, greatest: u64) -> bool
-    ensures { result ≡ greatest <? value * 10 + digit }
+// The digit at the front, if one stands there.
+fn first_digit(s: &[u8]) -> Option<u64>
+    ensures { result ≡ (if is_digit (get_or s.now 0 0) then Some (get_or s.now 0 0 - 48) else None) }
 {
-    if 1844674407370955161 < value {
-        return true;
-    }
-    let tenfold = value * 10;
-    if 18446744073709551615 - tenfold < digit {
-        return true;
-    }
-    greatest < tenfold + digit
+    digit_of(*s.first()?)
 }
 
-// Reads on from the byte at `begin`, `start` having been read before it.
-#[tactic(auto, using(crate::proofs::Reading::next_byte))]
-fn read_on(s: &[u8], greatest: u64, start: u64, begin: usize) -> Number
-    ensures { result ≡ read_on greatest start begin (drop begin s.now) }
+// `value` with one digit more, if that does not pass `greatest`.
+fn with_digit(value: u64, digit: u64, greatest: u64) -> Option<u64>
+    ensures { result ≡ (if greatest <? value * 10 + digit then None else Some (value * 10 + digit)) }
 {
-    let mut value = start;
-    let mut i = begin;
-    while digit_at(s, i) {
-        let digit = wide(s[i]) - 48;
-        if (value == 0) | passes(value, digit, greatest) {
-            return Number::Bad(i);
+    let next = value.checked_mul(10)?.checked_add(digit)?;
+    if greatest < next { None } else { Some(next) }
+}
+
+// Reads on behind the first byte, `first` having been read from it.
+#[tactic(auto, using(crate::proofs::Reading::next_byte, crate::proofs::Reading::read_end))]
+fn read_on(s: &[u8], greatest: u64, first: u64) -> Result<Number, NoNumber>
+    requires { 0 < length s.now }
+    ensures { result ≡ read_on greatest first 1 (drop 1 s.now) }
+{
+    let mut value = first;
+    for i in 1..s.len() {
+        let Some(digit) = digit_of(s[i]) else {
+            return Ok(Number { value, length: i });
+        };
+        if value == 0 {
+            return Err(NoNumber { place: i });
         }
-        value = value * 10 + digit;
-        i += 1;
+        value = with_digit(value, digit, greatest).ok_or(NoNumber { place: i })?;
     }
-    Number::Value(value, i)
+    Ok(Number {
+        value,
+        length: s.len(),
+    })
 }
 
 // The number that the part begins with: no sign, no leading zero, at most `greatest`, and 0 only where it is `allowed`.
-pub fn read_number(s: &[u8], allowed: bool, greatest: u64) -> Number
+#[tactic(auto, using(crate::proofs::Reading::first_byte, crate::proofs::Reading::digit_within))]
+pub fn read_number(s: &[u8], allowed: bool, greatest: u64) -> Result<Number, NoNumber>
     ensures { result ≡ number_at allowed greatest s.now }
 {
-    if !digit_at(s, 0) {
-        return Number::Bad(0);
+    let first = first_digit(s).ok_or(NoNumber { place: 0 })?;
+    if ((first == 0) & !allowed) | (greatest < first) {
+        return Err(NoNumber { place: 0 });
     }
-    let value = wide(s[0]) - 48;
-    if ((value == 0) & !allowed) | (greatest < value) {
-        return Number::Bad(0);
-    }
-    read_on(s, greatest, value, 1)
+    read_on(s, greatest, first)
 }
 
 // How many digits `n` has.
-#[tactic(auto, using(crate::proofs::Digits::count_one, crate::proofs::Digits::count_more))]
+#[tactic(auto, using(crate::proofs::Digits::count_one, crate::proofs::Digits::count_by_power))]
 pub fn digit_count(n: u64) -> usize
     ensures { result ≡ length (digits n) }
 {
-    let mut left = n;
-    let mut count: usize = 1;
-    while 10 <= left {
-        left = left / 10;
-        count += 1;
+    match n.checked_ilog10() {
+        Some(power) => power as usize + 1,
+        None => 1,
     }
-    count
 }
 
 // Writes the digits of `n` at the front of `out`. What stands after them is not touched.
@@ -98,15 +96,16 @@ fn write_digits(out: &mut [u8], n: u64) -> usize
     ensures { (result ≡ length (digits n)) × (out.new ≡ digits n ++ drop (length (digits n)) out.old) }
 {
     if n < 10 {
-        out[0] = (48 + n) as u8;
+        out[0] = b'0' + n as u8;
         return 1;
     }
     let count = write_digits(&mut out[..], n / 10);
-    out[count] = (48 + n % 10) as u8;
+    out[count] = b'0' + (n % 10) as u8;
     count + 1
 }
 
 // Writes the digits of `n` from `at` on and gives the next place; without room for them all it writes nothing and gives `at`.
+#[tactic(auto, using(fields::proofs::Rooms::put_part, fields::proofs::Rooms::next_fits, fields::proofs::Rooms::put_not, fields::proofs::Rooms::next_not))]
 pub fn put_number(out: &mut [u8], at: usize, n: u64) -> usize
     ensures { (result ≡ next_place out.old at (digits n)) × (out.new ≡ put_at out.old at (digits n)) }
 {

@@ -1,5 +1,5 @@
 -- Bytes at a place of lent room, and words at the front of a slice.
-use Rattle.std.specs.Prelude.{ℕ, suc, ◌+◌, List, [], ◌∷◌, ◌++◌, Bool, ◌&&◌, length, take, drop, if◌then◌else◌}
+use Rattle.std.specs.Prelude.{ℕ, suc, ◌+◌, List, [], ◌∷◌, ◌++◌, Bool, ◌&&◌, length, take, drop, if◌then◌else◌, Option, Some, None}
 use Rattle.words.specs.Tests.{◌≤?◌, ◌=?◌}
 
 -- The room with the bytes written from `at` on; as it was, where they do not fit.
@@ -25,3 +25,7 @@ begins word s = agree s word =? length word
 -- it is the word and nothing else
 unfoldable pub is_exactly : (word s : List ℕ) → Bool
 is_exactly word s = begins word s && (length s =? length word)
+
+-- what stands behind the word, if the word stands at the front
+unfoldable pub behind : (word s : List ℕ) → Option (List ℕ)
+behind word s = if begins word s then Some (drop (length word) s) else None

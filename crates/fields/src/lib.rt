@@ -2,10 +2,11 @@
 // Serves rule 6.4; the lines of step files and of answers have their words in the same way.
 #![tactic(auto)]
 
-ghost use Rattle.std.specs.Prelude.{◌≡◌, drop};
-ghost use Rattle.fields.specs.Places.{agree, begins, is_exactly, put_at, next_place};
+ghost use Rattle.std.specs.Prelude.{◌≡◌, drop, option_copied};
+ghost use Rattle.fields.specs.Places.{agree, begins, behind, is_exactly, put_at, next_place};
 
 // Writes the bytes from `at` on and gives the next place; without room for them all it writes nothing and gives `at`.
+#[tactic(auto, using(crate::proofs::Rooms::put_middle, crate::proofs::Rooms::next_fits, crate::proofs::Rooms::put_not, crate::proofs::Rooms::next_not))]
 pub fn put_bytes(out: &mut [u8], at: usize, bytes: &[u8]) -> usize
     ensures { (result ≡ next_place out.old at bytes.now) × (out.new ≡ put_at out.old at bytes.now) }
 {
@@ -15,49 +16,50 @@ pub fn put_bytes(out: &mut [u8], at: usize, bytes: &[u8]) -> usize
     if out.len() - at < bytes.len() {
         return at;
     }
-    let mut i: usize = 0;
-    while i < bytes.len() {
-        out[at + i] = bytes[i];
-        i += 1;
-    }
-    at + i
+    let next = at + bytes.len();
+    out[at..next].copy_from_slice(bytes);
+    next
 }
 
 // How many bytes `s` and `word` have in common at their fronts. The word stands there if it is all of its bytes.
 pub fn agreement(s: &[u8], word: &[u8]) -> usize
     ensures { result ≡ agree s.now word.now }
 {
-    let mut i: usize = 0;
-    while i < s.len() {
-        if word.len() <= i {
+    for (i, byte) in s.iter().enumerate() {
+        if word.get(i) != Some(byte) {
             return i;
         }
-        if s[i] != word[i] {
-            return i;
-        }
-        i += 1;
     }
-    i
+    s.len()
 }
 
 // Does the word stand at the front?
+#[tactic(auto, using(crate::proofs::Rooms::starts_lem))]
 pub fn starts(s: &[u8], word: &[u8]) -> bool
     ensures { result ≡ begins word.now s.now }
 {
-    agreement(s, word) == word.len()
+    s.starts_with(word)
 }
 
 // Is it the word and nothing else?
+#[tactic(auto, using(crate::proofs::Rooms::exactly_lem))]
 pub fn is_exactly(s: &[u8], word: &[u8]) -> bool
     ensures { result ≡ is_exactly word.now s.now }
 {
-    starts(s, word) & (s.len() == word.len())
+    s == word
 }
 
 // The part of the slice that begins at `at`; nothing, where that is past the end.
 pub fn part_from(s: &[u8], at: usize) -> &[u8]
     ensures { result.now ≡ drop at s.now }
 {
-    let length = s.len();
-    if at <= length { &s[at..] } else { &s[length..] }
+    s.get(at..).unwrap_or(&[])
+}
+
+// What stands behind the word, if the word stands at the front.
+#[tactic(auto, using(crate::proofs::Rooms::behind_lem))]
+pub fn after<'a>(s: &'a [u8], word: &[u8]) -> Option<&'a [u8]>
+    ensures { option_copied result ≡ behind word.now s.now }
+{
+    s.strip_prefix(word)
 }

@@ -1,5 +1,5 @@
 -- Reading and writing message lines undo one another.
-use Rattle.std.specs.Prelude.{if◌then◌else◌}
+use Rattle.std.specs.Prelude.{if◌then◌else◌, Result, Ok, Err}
 use Prim.Native.Nat.{ℕ, zero, suc, ◌^◌, ◌≤◌, ◌<◌}
 use native.Mathlib.Omega.{arith}
 use mathlib.Core.Path.{◌≡◌, refl, sym, ap, ◌∙◌}
@@ -14,11 +14,12 @@ use Rattle.words.proofs.Booleans.{not_both, both_hold}
 use Rattle.words.specs.Said.{refused}
 use Rattle.words.specs.Said.Said.{gives}
 use Rattle.decimals.specs.declared.Number.{Number}
-use Rattle.decimals.specs.declared.Number.TheVariants.{Value, Bad}
-use Rattle.decimals.specs.Decimals.{digits, number_at}
+use Rattle.decimals.specs.declared.NoNumber.{NoNumber}
+use Rattle.decimals.specs.Decimals.{digits, number, no_number, number_at}
 use Rattle.fields.specs.Places.{agree, begins, is_exactly}
 use Rattle.decimals.proofs.Reading.{digits_read, read_digits}
 use Rattle.fields.proofs.Rooms.{front}
+use Rattle.refusals.proofs.Results.{same_given, given_or_refused}
 use Rattle.messages.specs.declared.Status.{Status}
 use Rattle.messages.specs.declared.Status.TheVariants.{Alive, Dead}
 use Rattle.messages.specs.declared.Message.{Message}
@@ -29,27 +30,21 @@ use Rattle.lines_rules.specs.Writing.{fitting, filled, bytes_of, joined, line_of
 use Rattle.lines_rules.specs.Claims.{WrittenIsRead, ReadIsWritten}
 use Rattle.lines_rules.proofs.Lines.{fits_said, fits_room, request_line, grant_line, check_line}
 
--- a refusal gives nothing
-no_gift : {A B : Type 0} {k : ℕ} {a : A} → refused k ≡ gives a → B
-no_gift e = let z : ◌≡◌ {A = ℕ} 0 1 = cc in absurd (let w : 0 ≡ 1 = z in omega arith)
-
-gift : {A : Type 0} {a b : A} → gives a ≡ gives b → a ≡ b
-gift e = cc
-
-no_value : {A : Type 0} {i n k : ℕ} → Bad i ≡ Value n k → A
+-- no place is a number
+no_value : {A : Type 0} {e : NoNumber} {n : Number} → Err e ≡ Ok n → A
 no_value e = let z : ◌≡◌ {A = ℕ} 0 1 = cc in absurd (let w : 0 ≡ 1 = z in omega arith)
 
 -- ---- what is written is read
 
 -- a number within its bounds, up to the line feed
 number_line : (n : ℕ) (allowed : Bool) (greatest : ℕ) → greatest < 2 ^ 64 → n ≤ greatest → (n ≡ 0 → allowed ≡ true)
-    → only_number allowed greatest (digits n ++ (10 ∷ [])) ≡ Value n (length (digits n))
+    → only_number allowed greatest (digits n ++ (10 ∷ [])) ≡ number n (length (digits n))
 unfolding only_number ended is_exactly begins agree
 number_line n allowed greatest b m z =
     rw (digits_read n allowed greatest (10 ∷ []) (omega arith) m z refl, drop-append_seam (digits n) (10 ∷ []))
 
 counter_line : (cnt : ℕ) → ((1 ≤? cnt) && (cnt ≤? top_counter)) ≡ true
-    → only_number false top_counter (digits cnt ++ (10 ∷ [])) ≡ Value cnt (length (digits cnt))
+    → only_number false top_counter (digits cnt ++ (10 ∷ [])) ≡ number cnt (length (digits cnt))
 counter_line cnt h =
     let p = both_hold (1 ≤? cnt) (cnt ≤? top_counter) h in
     let least = leb-true 1 cnt p.0 in
@@ -95,26 +90,27 @@ record Alone (allowed : Bool) (greatest : ℕ) (s : List ℕ) (n : ℕ) : Type 0
   most : n ≤ greatest
   nonzero : n ≡ 0 → allowed ≡ true
 
-alone : (allowed : Bool) (greatest : ℕ) → greatest < 2 ^ 64 → (s : List ℕ) (n k : ℕ) → only_number allowed greatest s ≡ Value n k
-    → Alone allowed greatest s n
+alone : (allowed : Bool) (greatest : ℕ) → greatest < 2 ^ 64 → (s : List ℕ) (n : Number) → only_number allowed greatest s ≡ Ok n
+    → Alone allowed greatest s n.value
 unfolding only_number ended
-alone allowed greatest b s n k e = of (number_at allowed greatest s) refl e
+alone allowed greatest b s n e = of (number_at allowed greatest s) refl e
   where
-    feed : (v c : ℕ) (t : Bool) → is_exactly (text "\n") (drop c s) ≡ t → number_at allowed greatest s ≡ Value v c
-        → (if t then Value v c else Bad c) ≡ Value n k → Alone allowed greatest s n
-    feed v c true t q e =
-        let r = read_digits allowed greatest s v c b q in
-        let same : v ≡ n = cc in
+    feed : (v : Number) (t : Bool) → is_exactly (text "\n") (drop v.length s) ≡ t → number_at allowed greatest s ≡ Ok v
+        → (if t then Ok v else no_number v.length) ≡ Ok n → Alone allowed greatest s n.value
+    feed v true t q e =
+        let r = read_digits allowed greatest s v.value v.length b q in
+        let both : v ≡ n = cc in
+        let same : v.value ≡ n.value = ap (λ (x : Number). x.value) both in
         record {
-          line = r.front ∙ rw (exactly (text "\n") (drop c s) t, same);
+          line = r.front ∙ rw (exactly (text "\n") (drop v.length s) t, same);
           most = omega (arith, r.most, same);
           nonzero = λ z. r.nonzero (same ∙ z);
         }
-    feed v c false t q e = no_value e
+    feed v false t q e = no_value e
 
-    of : (x : Number) → number_at allowed greatest s ≡ x → ended s x ≡ Value n k → Alone allowed greatest s n
-    of (Value v c) q e = feed v c (is_exactly (text "\n") (drop c s)) refl q e
-    of (Bad place) q e = no_value e
+    of : (x : Result Number NoNumber) → number_at allowed greatest s ≡ x → ended s x ≡ Ok n → Alone allowed greatest s n.value
+    of (Ok v) q e = feed v (is_exactly (text "\n") (drop v.length s)) refl q e
+    of (Err place) q e = no_value e
 
 pub record Formed (s : List ℕ) (m : Message) : Type 0 where
   pub form : has_form m ≡ true
@@ -128,15 +124,15 @@ one_formed : (word : List ℕ) (make : ℕ → Message) (allowed : Bool) (greate
     → one_of make (only_number allowed greatest (drop (length word) s)) ≡ gives m → Formed s m
 one_formed word make allowed greatest b lines forms s m w e = of (only_number allowed greatest (drop (length word) s)) refl e
   where
-    of : (x : Number) → only_number allowed greatest (drop (length word) s) ≡ x → one_of make x ≡ gives m → Formed s m
-    of (Value v c) q e =
-        let a = alone allowed greatest b (drop (length word) s) v c q in
-        let same : make v ≡ m = gift e in
+    of : (x : Result Number NoNumber) → only_number allowed greatest (drop (length word) s) ≡ x → one_of make x ≡ gives m → Formed s m
+    of (Ok v) q e =
+        let a = alone allowed greatest b (drop (length word) s) v q in
+        let same : make v.value ≡ m = same_given e in
         record {
-          form = rw same at (forms v a.most a.nonzero);
-          line = rw (← same, lines v, append_assoc, ← a.line) (front word s w);
+          form = rw same at (forms v.value a.most a.nonzero);
+          line = rw (← same, lines v.value, append_assoc, ← a.line) (front word s w);
         }
-    of (Bad place) q e = no_gift e
+    of (Err place) q e = given_or_refused (sym e)
 
 counter_forms : (n : ℕ) → n ≤ top_counter → (n ≡ 0 → false ≡ true) → ((1 ≤? n) && (n ≤? top_counter)) ≡ true
 counter_forms n h z = rw (le-leb 1 n (positive n z), le-leb n top_counter h)
@@ -159,42 +155,42 @@ ack_status ts cnt s m r c e =
     by : (a : Bool) → is_exactly (text "\tAlive\n") s ≡ a → (d : Bool) → is_exactly (text "\tDead\n") s ≡ d
         → (if a then gives (CheckAck ts cnt Alive) else (if d then gives (CheckAck ts cnt Dead) else refused 9)) ≡ gives m
         → (has_form m ≡ true) × (text "CHECK-ACK\t" ++ (digits ts ++ (9 ∷ (digits cnt ++ s))) ≡ line_of m)
-    by true p d q e = told Alive (exactly (text "\tAlive\n") s p) (gift e)
-    by false p true q e = told Dead (exactly (text "\tDead\n") s q) (gift e)
-    by false p false q e = no_gift e
+    by true p d q e = told Alive (exactly (text "\tAlive\n") s p) (same_given e)
+    by false p true q e = told Dead (exactly (text "\tDead\n") s q) (same_given e)
+    by false p false q e = given_or_refused (sym e)
 
 ack_counter : (ts : ℕ) (s : List ℕ) (m : Message) → ts ≤ top_reading → read_ack_counter ts s ≡ gives m
     → (has_form m ≡ true) × (text "CHECK-ACK\t" ++ (digits ts ++ s) ≡ line_of m)
 unfolding read_ack_counter status_behind
 ack_counter ts s m r e = by (begins (text "\t") s) refl e
   where
-    of : s ≡ 9 ∷ drop 1 s → (x : Number) → number_at true top_counter (drop 1 s) ≡ x → status_behind ts (drop 1 s) x ≡ gives m
+    of : s ≡ 9 ∷ drop 1 s → (x : Result Number NoNumber) → number_at true top_counter (drop 1 s) ≡ x → status_behind ts (drop 1 s) x ≡ gives m
         → (has_form m ≡ true) × (text "CHECK-ACK\t" ++ (digits ts ++ s) ≡ line_of m)
-    of t (Value cnt k) q e =
-        let n = read_digits true top_counter (drop 1 s) cnt k (omega arith) q in
-        let a = ack_status ts cnt (drop k (drop 1 s)) m r n.most e in
+    of t (Ok v) q e =
+        let n = read_digits true top_counter (drop 1 s) v.value v.length (omega arith) q in
+        let a = ack_status ts v.value (drop v.length (drop 1 s)) m r n.most e in
         (a.0, ap (λ (l : List ℕ). text "CHECK-ACK\t" ++ (digits ts ++ l)) (t ∙ ap (λ (l : List ℕ). 9 ∷ l) n.front) ∙ a.1)
-    of t (Bad place) q e = no_gift e
+    of t (Err place) q e = given_or_refused (sym e)
 
     by : (t : Bool) → begins (text "\t") s ≡ t
         → (if t then status_behind ts (drop 1 s) (number_at true top_counter (drop 1 s)) else refused 9) ≡ gives m
         → (has_form m ≡ true) × (text "CHECK-ACK\t" ++ (digits ts ++ s) ≡ line_of m)
     by true t e = of (front (text "\t") s t) (number_at true top_counter (drop 1 s)) refl e
-    by false t e = no_gift e
+    by false t e = given_or_refused (sym e)
 
 ack_formed : (s : List ℕ) (m : Message) → begins (text "CHECK-ACK\t") s ≡ true → read_ack (drop 10 s) ≡ gives m → Formed s m
 unfolding read_ack counter_behind
 ack_formed s m w e = of (number_at true top_reading (drop 10 s)) refl e
   where
-    of : (x : Number) → number_at true top_reading (drop 10 s) ≡ x → counter_behind (drop 10 s) x ≡ gives m → Formed s m
-    of (Value ts k) q e =
-        let n = read_digits true top_reading (drop 10 s) ts k (omega arith) q in
-        let a = ack_counter ts (drop k (drop 10 s)) m n.most e in
+    of : (x : Result Number NoNumber) → number_at true top_reading (drop 10 s) ≡ x → counter_behind (drop 10 s) x ≡ gives m → Formed s m
+    of (Ok v) q e =
+        let n = read_digits true top_reading (drop 10 s) v.value v.length (omega arith) q in
+        let a = ack_counter v.value (drop v.length (drop 10 s)) m n.most e in
         record {
           form = a.0;
           line = front (text "CHECK-ACK\t") s w ∙ ap (λ (l : List ℕ). text "CHECK-ACK\t" ++ l) n.front ∙ a.1;
         }
-    of (Bad place) q e = no_gift e
+    of (Err place) q e = given_or_refused (sym e)
 
 pub read_formed : (s : List ℕ) (m : Message) → read_line s ≡ gives m → Formed s m
 unfolding read_line has_form
@@ -219,7 +215,7 @@ read_formed s m e =
     by false p false q true u a v e =
         one_formed (text "CHECK\t") Check true top_reading (omega arith) check_line (λ n h z. le-leb n top_reading h) s m u e
     by false p false q false u true v e = ack_formed s m v e
-    by false p false q false u false v e = no_gift e
+    by false p false q false u false v e = given_or_refused (sym e)
 
 -- ---- the claims
 
@@ -232,9 +228,9 @@ written m room k e = by (has_form m) refl (length room <? length (line_of m)) re
     by : (f : Bool) → has_form m ≡ f → (t : Bool) → (length room <? length (line_of m)) ≡ t
         → (if not f then refused 9 else (if t then refused 10 else gives (length (line_of m)))) ≡ gives k
         → (has_form m ≡ true) × (k ≡ length (line_of m)) × (write_room m room ≡ line_of m ++ drop (length (line_of m)) room)
-    by true f true t e = no_gift e
-    by true f false t e = (f, sym (gift e), rw (f, t))
-    by false f t q e = no_gift e
+    by true f true t e = given_or_refused (sym e)
+    by true f false t e = (f, sym (same_given e), rw (f, t))
+    by false f t q e = given_or_refused (sym e)
 
 pub written_is_read_lem : WrittenIsRead
 written_is_read_lem m room k e =

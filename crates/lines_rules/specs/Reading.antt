@@ -1,12 +1,12 @@
 -- Reading a message line (rule 6.5). A field's reader gets what the line holds from
 -- there on.
-use Rattle.std.specs.Prelude.{ℕ, Bool, true, false, List, drop, if◌then◌else◌}
+use Rattle.std.specs.Prelude.{ℕ, Bool, true, false, List, drop, if◌then◌else◌, Result, Ok, Err}
 use Rattle.words.specs.Lists.{text}
 use Rattle.words.specs.Said.{Said, refused}
 use Rattle.words.specs.Said.Said.{gives}
 use Rattle.decimals.specs.declared.Number.{Number}
-use Rattle.decimals.specs.declared.Number.TheVariants.{Value, Bad}
-use Rattle.decimals.specs.Decimals.{number_at}
+use Rattle.decimals.specs.declared.NoNumber.{NoNumber}
+use Rattle.decimals.specs.Decimals.{no_number, number_at}
 use Rattle.fields.specs.Places.{begins, is_exactly}
 use Rattle.messages.specs.declared.Status.TheVariants.{Alive, Dead}
 use Rattle.messages.specs.declared.Message.{Message}
@@ -14,17 +14,17 @@ use Rattle.messages.specs.declared.Message.TheVariants.{LeaseRequest, LeaseGrant
 use Rattle.messages.specs.Messages.{top_counter, top_reading}
 
 -- a number and the line feed that ends the line
-unfoldable pub ended : List ℕ → Number → Number
-ended s (Value value count) = if is_exactly (text "\n") (drop count s) then Value value count else Bad count
-ended s (Bad place) = Bad place
+unfoldable pub ended : List ℕ → Result Number NoNumber → Result Number NoNumber
+ended s (Ok n) = if is_exactly (text "\n") (drop n.length s) then Ok n else no_number n.length
+ended s (Err e) = Err e
 
-unfoldable pub only_number : (allowed : Bool) (greatest : ℕ) → List ℕ → Number
+unfoldable pub only_number : (allowed : Bool) (greatest : ℕ) → List ℕ → Result Number NoNumber
 only_number allowed greatest s = ended s (number_at allowed greatest s)
 
 -- the message that is made of that number, or 9
-abbrev pub one_of : (ℕ → Message) → Number → Said Message
-one_of make (Value value count) = gives (make value)
-one_of make (Bad place) = refused 9
+abbrev pub one_of : (ℕ → Message) → Result Number NoNumber → Said Message
+one_of make (Ok n) = gives (make n.value)
+one_of make (Err e) = refused 9
 
 -- `CHECK-ACK ts cnt Alive` (or `Dead`), from the status' tab on
 unfoldable pub read_ack_status : (ts cnt : ℕ) → List ℕ → Said Message
@@ -34,18 +34,18 @@ read_ack_status ts cnt s =
     else refused 9)
 
 -- from the counter's tab on
-unfoldable pub status_behind : (ts : ℕ) → List ℕ → Number → Said Message
-status_behind ts s (Value cnt count) = read_ack_status ts cnt (drop count s)
-status_behind ts s (Bad place) = refused 9
+unfoldable pub status_behind : (ts : ℕ) → List ℕ → Result Number NoNumber → Said Message
+status_behind ts s (Ok n) = read_ack_status ts n.value (drop n.length s)
+status_behind ts s (Err e) = refused 9
 
 unfoldable pub read_ack_counter : (ts : ℕ) → List ℕ → Said Message
 read_ack_counter ts s =
     if begins (text "\t") s then status_behind ts (drop 1 s) (number_at true top_counter (drop 1 s)) else refused 9
 
 -- from ts on
-unfoldable pub counter_behind : List ℕ → Number → Said Message
-counter_behind s (Value ts count) = read_ack_counter ts (drop count s)
-counter_behind s (Bad place) = refused 9
+unfoldable pub counter_behind : List ℕ → Result Number NoNumber → Said Message
+counter_behind s (Ok n) = read_ack_counter n.value (drop n.length s)
+counter_behind s (Err e) = refused 9
 
 unfoldable pub read_ack : List ℕ → Said Message
 read_ack s = counter_behind s (number_at true top_reading s)

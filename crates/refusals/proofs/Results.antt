@@ -4,8 +4,8 @@ use Rattle.words.proofs.Booleans.{not_both}
 use Rattle.words.specs.Said.{Said, number, refused}
 use Rattle.words.specs.Said.Said.{refusal, gives}
 use Rattle.refusals.specs.declared.Refusal.{Refusal}
-use Rattle.refusals.specs.Refusals.{said_in}
-use Rattle.refusals.proofs.Apart.{told_apart_lem}
+use Rattle.refusals.specs.Refusals.{number_in, said_in}
+use Rattle.refusals.proofs.Apart.{told_apart_lem, some_number}
 
 unfoldable value_or : {A : Type 0} → A → Said A → A
 value_or other (refusal k values) = other
@@ -33,3 +33,10 @@ said_in_apart {r = Ok a} {r' = Ok b} e = ap Ok (same_given e)
 said_in_apart {r = Ok a} {r' = Err y} e = given_or_refused e
 said_in_apart {r = Err x} {r' = Ok b} e = given_or_refused (sym e)
 said_in_apart {r = Err x} {r' = Err y} e = ap Err (told_apart_lem x y (same_refused e))
+
+-- and so are those that give nothing
+pub number_in_apart : {r r' : Result Unit Refusal} → number_in r ≡ number_in r' → r ≡ r'
+number_in_apart {r = Ok a} {r' = Ok b} e = refl
+number_in_apart {r = Ok a} {r' = Err y} e = absurd (some_number y (sym e))
+number_in_apart {r = Err x} {r' = Ok b} e = absurd (some_number x e)
+number_in_apart {r = Err x} {r' = Err y} e = ap Err (told_apart_lem x y e)

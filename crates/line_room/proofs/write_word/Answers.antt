@@ -7,8 +7,8 @@ use Rattle.fields.proofs.Rooms.{put_none, put_then}
 use Rattle.lines_rules.proofs.Lines.{fits_said, fits_room, short_said, short_room}
 use Rattle.line_room.proofs.write_word.Goals as goal
 
-pub returns-then-out-length : goal.returns-then-out-length
-returns-then-out-length c =
+pub returns-then-out-word : goal.returns-then-out-word
+returns-then-out-word c =
     let a = c.args in (
       sym (short_said a.word.now a.out.now (omega arith)),
       sym
@@ -22,7 +22,7 @@ returns c =
     let room = a.out.now in
     let p = c.put_bytes.ensures in
     let one =
-    put_then [] room word (put_none room) (omega (arith, c.if-out-length.false)) p.0 p.1 in (
-      ap gives one.place ∙ sym (fits_said word room (omega (arith, c.if-out-length.false))),
-      one.holds ∙ sym (fits_room word room (omega (arith, c.if-out-length.false))),
+    put_then [] room word (put_none room) (omega (arith, c.if-out-word.false)) p.0 p.1 in (
+      ap gives one.place ∙ sym (fits_said word room (omega (arith, c.if-out-word.false))),
+      one.holds ∙ sym (fits_room word room (omega (arith, c.if-out-word.false))),
     )

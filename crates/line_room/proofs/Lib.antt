@@ -1,2 +1,0 @@
--- A writer's answers.
-pub mod Written
