@@ -2,82 +2,74 @@
 // What a call returns and leaves stands in `firmware_rules`; the header for C is include/recorder.h.
 #![tactic(auto)]
 
-ghost use Rattle.std.specs.Prelude.{◌≡◌, length, if◌then◌else◌};
-ghost use Rattle.words.specs.Tests.{◌=?◌};
-ghost use Rattle.settings.specs.Settings.{settings_of, refusal_of};
+ghost use Rattle.std.specs.Prelude.{◌≡◌};
+ghost use Rattle.settings.specs.Settings.{settings_of};
 ghost use Rattle.messages.specs.Answers.{said, speaks, words_of};
 ghost use Rattle.recorder_rules.specs.declared.RecorderEvent.TheVariants.{Tick, Grant, Drive};
-ghost use Rattle.recorder.specs.Outcome.{outcome};
-ghost use Rattle.firmware_rules.specs.Bytes.{record_bytes};
-ghost use Rattle.firmware_rules.specs.Calls.{code_of, left_by, called};
+ghost use Rattle.firmware_rules.specs.Calls.{code_of, called};
 
-use messages::{Answer, Word, is_refusal};
+use messages::{Answer, Word};
 use record_bytes::{RECORD_BYTES, put_record, record_in};
-use recorder::{Stepped, step};
+use recorder::step;
 use recorder_rules::RecorderEvent;
-use settings::{Settings, refusal, settings_of};
+use refusals::Refusal;
+use settings::{Settings, accept, settings_of};
 
-// The number that C gets for an answer. The recorder says three of the words.
+// The number that C gets for a word, of which the recorder says three.
+// Kept: the C interface has numbers (rule 8.3).
+#[tactic(auto, unfolding(firmware_rules::specs::Calls::code_of, firmware_rules::specs::Calls::code_of_given, firmware_rules::specs::Calls::word_in, messages::specs::Answers::words_of, fields::specs::Places::is_exactly, fields::specs::Places::begins, fields::specs::Places::agree))]
 fn code_of_word(word: Word) -> u32
     ensures { result ≡ code_of (speaks (words_of word)) }
 {
     match word {
         Word::Unregistered => 100,
         Word::Running => 101,
-        Word::Stopped => 102,
-        Word::Silent => 102,
-        Word::Cut => 102,
-        Word::Waiting => 102,
-        Word::Late => 102,
-        Word::Unknown => 102,
-        Word::Dead(_) => 102,
-        Word::Alive(_) => 102,
+        _ => 102,
     }
 }
 
-fn code_of(answer: Answer) -> u32
+// The number that C gets for an answer.
+// Kept: the C interface has numbers (rule 8.3).
+#[tactic(auto, unfolding(firmware_rules::specs::Calls::code_of, firmware_rules::specs::Calls::code_of_given, messages::specs::Answers::said, messages::specs::Answers::given))]
+fn code_of(answer: Result<Answer, Refusal>) -> u32
     ensures { result ≡ code_of (said answer) }
 {
     match answer {
-        Answer::Refused(number) => number,
-        Answer::Send(_) => 103,
-        Answer::Say(word) => code_of_word(word),
+        Ok(Answer::Send(_)) => 103,
+        Ok(Answer::Say(word)) => code_of_word(word),
+        Err(refusal) => u32::from(refusal),
     }
 }
 
-// The number for a buffer that holds no record: the settings are judged before its size.
-fn size_refusal(s: Settings) -> u32
-    ensures { result ≡ (if refusal_of s =? 0 then 10 else refusal_of s) }
+// The step on the record that the buffer holds: a refused one writes no byte, any other its whole record (rule 8.4). A call
+// judges the settings once: here before the size of a buffer that holds no record (rule 8.2), otherwise in the step.
+fn perform(
+    s: Settings,
+    reading: u64,
+    event: RecorderEvent,
+    buffer: &mut [u8],
+) -> Result<Answer, Refusal>
+    ensures { (code_of (said result) ≡ (called s buffer.old reading event).code) × (buffer.new ≡ (called s buffer.old reading event).bytes) }
 {
-    let refused = refusal(s);
-    if refused == 0 { 10 } else { refused }
-}
-
-// A refused step writes no byte, any other its whole record.
-fn leave(b: &mut [u8], done: Stepped) -> u32
-    requires { length b.old ≡ record_bytes }
-    ensures { (result ≡ (left_by b.old (outcome done)).code) × (b.new ≡ (left_by b.old (outcome done)).bytes) }
-{
-    let answer = done.answer;
-    if is_refusal(answer) {
-        return code_of(answer);
+    if buffer.len() != RECORD_BYTES {
+        accept(s)?;
+        return Err(Refusal::WrongRoom);
     }
-    let rec = done.rec;
-    put_record(&mut b[..], rec);
-    code_of(answer)
+    let rec = record_in(&buffer[..]);
+    let done = step(s, rec, reading, event);
+    let answer = done.answer?;
+    put_record(&mut buffer[..], done.rec);
+    Ok(answer)
 }
 
-// The step on the record that the buffer holds. The step judges the settings, so that a call judges them once.
+// Kept: the C interface has numbers (rule 8.3).
 fn call(s: Settings, reading: u64, event: RecorderEvent, buffer: &mut [u8]) -> u32
     ensures { (result ≡ (called s buffer.old reading event).code) × (buffer.new ≡ (called s buffer.old reading event).bytes) }
 {
-    if buffer.len() != RECORD_BYTES {
-        return size_refusal(s);
-    }
-    let rec = record_in(&buffer[..]);
-    leave(&mut buffer[..], step(s, rec, reading, event))
+    code_of(perform(s, reading, event, &mut buffer[..]))
 }
 
+// Kept: the C interface.
 #[unsafe(no_mangle)]
 pub extern "C" fn recorder_tick(settings: &[u64; 7], reading: u64, buffer: &mut [u8]) -> u32
     ensures { (result ≡ (called (settings_of settings.now) buffer.old reading Tick).code) × (buffer.new ≡ (called (settings_of settings.now) buffer.old reading Tick).bytes) }
@@ -86,6 +78,7 @@ pub extern "C" fn recorder_tick(settings: &[u64; 7], reading: u64, buffer: &mut 
     call(s, reading, RecorderEvent::Tick, &mut buffer[..])
 }
 
+// Kept: the C interface.
 #[unsafe(no_mangle)]
 pub extern "C" fn recorder_grant(
     settings: &[u64; 7],
@@ -105,6 +98,7 @@ pub extern "C" fn recorder_grant(
     )
 }
 
+// Kept: the C interface.
 #[unsafe(no_mangle)]
 pub extern "C" fn recorder_drive(settings: &[u64; 7], reading: u64, buffer: &mut [u8]) -> u32
     ensures { (result ≡ (called (settings_of settings.now) buffer.old reading Drive).code) × (buffer.new ≡ (called (settings_of settings.now) buffer.old reading Drive).bytes) }

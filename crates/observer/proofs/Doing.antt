@@ -1,6 +1,6 @@
 -- A plan that is done is the step of the rules: its stores are those that the rules list, all of them or the first few of a
 -- cut.
-use Rattle.std.specs.Prelude.{if◌then◌else◌}
+use Rattle.std.specs.Prelude.{if◌then◌else◌, Result}
 use Prim.Native.Nat.{ℕ, ◌+◌, ◌≤◌}
 use mathlib.Core.Path.{◌≡◌, refl, sym, ap}
 use mathlib.Core.Bool.{Bool, true, false}
@@ -8,27 +8,28 @@ use mathlib.Core.List.{[]}
 use lib.ListN.{take}
 use lib.Seq.{take-nil}
 use Rattle.words.specs.Tests.{◌<?◌, ◌=?◌}
-use Rattle.words.specs.Said.{first}
+use Rattle.words.specs.Said.{Said, first, refused}
+use Rattle.words.specs.Said.Said.{refusal, gives}
+use Rattle.refusals.specs.declared.Refusal.{Refusal}
 use Rattle.settings.specs.declared.Settings.{Settings}
 use Rattle.settings.specs.Settings.{O, refusal_of}
 use Rattle.messages.specs.Messages.{top_reading}
-use Rattle.messages.specs.Answers.{said, refuses}
-use Rattle.messages.specs.Outcomes.{◌leaving◌, unless_refused}
+use Rattle.messages.specs.Answers.{refuses}
+use Rattle.messages.specs.Outcomes.{Outcome, ◌leaving◌, unless_refused}
 use Rattle.observer_rules.specs.declared.Observer.{Observer}
 use Rattle.observer_rules.specs.declared.ObserverEvent.{ObserverEvent}
 use Rattle.observer_rules.specs.declared.ObserverEvent.TheVariants.{Request, Cut, Check}
 use Rattle.observer_rules.specs.Observer.{at_reading, store_all, stores, stores_of, refusals_of, answer_of, reading_after, step_of}
 use Rattle.observer_rules.proofs.Laws.{request_accepted, cut_accepted, check_accepted}
 use Rattle.observer.specs.declared.Plan.{Plan}
-use Rattle.observer.specs.Plan.{Planned, how_many, new_latest, planned, plan_of, accepting, refusing}
+use Rattle.observer.specs.Plan.{Planned, how_many, new_latest, planned, plan_of, accepting}
 use Rattle.observer.specs.Parts.{in_order}
 
--- what doing a plan leaves of the record: a refusal writes nothing (rule 2.2), any other does its stores and then sets the
--- last reading
-abbrev pub left_by : Planned → Observer → Observer
-left_by p o =
-    if p.refused then o
-    else at_reading p.reading (store_all (take p.stores (in_order p.deadline p.latest)) o)
+-- what doing a plan says and leaves: a refusal writes nothing (rule 2.2), any other does its stores and then sets the last
+-- reading
+abbrev pub done : Said Planned → Observer → Outcome Observer
+done (refusal k values) o = refusal k values leaving o
+done (gives p) o = p.answer leaving at_reading p.reading (store_all (take p.stores (in_order p.deadline p.latest)) o)
 
 module _ (s : Settings) (o : Observer) (x r : ℕ) where
   -- what a step that is not refused knows of its inputs, whatever its event
@@ -52,8 +53,7 @@ module _ (s : Settings) (o : Observer) (x r : ℕ) where
       by false = sym (take-nil k)
   its_stores (Check ts) = refl
 
-  pub plan_done : (event : ObserverEvent)
-      → ((plan_of s o x r event).answer leaving left_by (plan_of s o x r event) o) ≡ step_of s o x r event
+  pub plan_done : (event : ObserverEvent) → done (plan_of s o x r event) o ≡ step_of s o x r event
   unfolding plan_of step_of unless_refused
   plan_done event = by (first (refusals_of s o x r event) =? 0)
     where
@@ -61,14 +61,13 @@ module _ (s : Settings) (o : Observer) (x r : ℕ) where
       k = first (refusals_of s o x r event)
 
       by : (b : Bool)
-          → let p = if b then accepting s o r event else refusing k in
-          (p.answer leaving left_by p o)
+          → done (if b then gives (accepting s o r event) else refused k) o
           ≡ (if b then answer_of o r event leaving at_reading (reading_after r event) (store_all (stores_of s o r event) o)
           else refuses k leaving o)
       by true = ap (λ list. answer_of o r event leaving at_reading (reading_after r event) (store_all list o)) (its_stores event)
       by false = refl
 
 -- as code has it: the plan is the one that was made
-pub step_done : (s : Settings) (o : Observer) (x r : ℕ) (event : ObserverEvent) (p : Plan) → planned p ≡ plan_of s o x r event
-    → (said p.answer leaving left_by (planned p) o) ≡ step_of s o x r event
+pub step_done : (s : Settings) (o : Observer) (x r : ℕ) (event : ObserverEvent) (p : Result Plan Refusal) → planned p ≡ plan_of s o x r event
+    → done (planned p) o ≡ step_of s o x r event
 step_done s o x r event p e = rw (← e) at (plan_done s o x r event)

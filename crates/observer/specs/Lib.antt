@@ -1,4 +1,3 @@
--- What the observer's step returns, its plan, and its parts.
-pub mod Outcome
+-- The plan of a step, and its parts.
 pub mod Plan
 pub mod Parts

@@ -1,11 +1,14 @@
 -- The plan of a step: what the rules of an observer (4.4 to 4.7) ask of it, before any of it is done. Both forms of the step do
 -- the same plan; that a plan done is the step of the rules is proved in proofs/Doing.antt.
-use Rattle.std.specs.Prelude.{ℕ, ◌+◌, Bool, true, false, if◌then◌else◌}
+use Rattle.std.specs.Prelude.{ℕ, ◌+◌, if◌then◌else◌, Result, Ok, Err}
 use Rattle.words.specs.Tests.{◌<?◌, ◌=?◌}
-use Rattle.words.specs.Said.{Said, first}
+use Rattle.words.specs.Said.{Said, first, refused}
+use Rattle.words.specs.Said.Said.{gives}
+use Rattle.refusals.specs.declared.Refusal.{Refusal}
+use Rattle.refusals.specs.Refusals.{number_of}
 use Rattle.settings.specs.declared.Settings.{Settings}
 use Rattle.settings.specs.Settings.{O}
-use Rattle.messages.specs.Answers.{Spoken, said, refuses}
+use Rattle.messages.specs.Answers.{Spoken, given}
 use Rattle.observer_rules.specs.declared.Observer.{Observer}
 use Rattle.observer_rules.specs.declared.ObserverEvent.{ObserverEvent}
 use Rattle.observer_rules.specs.declared.ObserverEvent.TheVariants.{Request, Cut, Check}
@@ -24,42 +27,39 @@ new_latest (Request c) = c
 new_latest (Cut c k) = c
 new_latest (Check ts) = 0
 
--- A plan in the words of the rules: the answer, and whether it is a refusal; how many stores are done, and what they store;
--- and the last reading.
+-- A plan in the words of the rules: the answer; how many stores are done, and what they store; and the last reading.
 pub record Planned : Type 0 where
   pub answer : Said Spoken
-  pub refused : Bool
   pub stores : ℕ
   pub deadline : ℕ
   pub latest : ℕ
   pub reading : ℕ
 
-abbrev pub planned : Plan → Planned
-planned p =
-    record {
-      answer = said p.answer;
-      refused = p.refused;
+-- the plan, or the refusal's number
+abbrev pub planned : Result Plan Refusal → Said Planned
+planned (Ok p) =
+    gives
+    (record {
+      answer = given p.answer;
       stores = p.stores;
       deadline = p.deadline;
       latest = p.latest;
       reading = p.last_reading;
-    }
-
--- of a refusal there is nothing to do
-abbrev pub refusing : (k : ℕ) → Planned
-refusing k = record { answer = refuses k; refused = true; stores = 0; deadline = 0; latest = 0; reading = 0 }
+    })
+planned (Err r) = refused (number_of r)
 
 abbrev pub accepting : Settings → Observer → (r : ℕ) → ObserverEvent → Planned
 accepting s o r event =
     record {
       answer = answer_of o r event;
-      refused = false;
       stores = how_many o event;
       deadline = r + O s;
       latest = new_latest event;
       reading = reading_after r event;
     }
 
-unfoldable pub plan_of : Settings → Observer → (x r : ℕ) → ObserverEvent → Planned
+-- of a refusal there is nothing to do
+unfoldable pub plan_of : Settings → Observer → (x r : ℕ) → ObserverEvent → Said Planned
 plan_of s o x r event =
-    if first (refusals_of s o x r event) =? 0 then accepting s o r event else refusing (first (refusals_of s o x r event))
+    if first (refusals_of s o x r event) =? 0 then gives (accepting s o r event)
+    else refused (first (refusals_of s o x r event))

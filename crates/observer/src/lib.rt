@@ -6,28 +6,22 @@
 ghost use Rattle.std.specs.Prelude.{◌≡◌, take};
 ghost use Rattle.words.specs.Said.{first};
 ghost use Rattle.settings.specs.Parts.{InRange};
-ghost use Rattle.messages.specs.Answers.{said};
-ghost use Rattle.observer_rules.specs.Observer.{at_reading, has_form, shared_refusals, request_refusals, cut_refusals, check_refusals, refusals_of, Store, store, store_all, status_at, answer_of, reading_after, step_of, restart_of};
-ghost use Rattle.observer.specs.Outcome.{outcome};
+ghost use Rattle.refusals.specs.Refusals.{number_in};
+ghost use Rattle.messages.specs.Answers.{given};
+ghost use Rattle.messages.specs.Outcomes.{outcome};
+ghost use Rattle.observer_rules.specs.Observer.{at_reading, has_form, shared_refusals, request_refusals, cut_refusals, check_refusals, refusals_of, store_all, status_at, answer_of, reading_after, step_of, restart_of};
 ghost use Rattle.observer.specs.Plan.{how_many, new_latest, planned, plan_of};
 ghost use Rattle.observer.specs.Parts.{in_order};
 
-use messages::{Answer, Message, Status, Word, bad_reading};
+use messages::{Answer, Message, Status, Stepped, Word, bad_reading};
 use observer_rules::{Observer, ObserverEvent};
+use refusals::Refusal;
 use settings::Settings;
 
-// What a step returns: its answer, and the record after it.
-#[derive(Clone, Copy)]
-pub struct Stepped {
-    pub answer: Answer,
-    pub rec: Observer,
-}
-
-// What a step is to do. A refusal does nothing of what follows it.
+// What an accepted step is to do.
 #[derive(Clone, Copy)]
 pub struct Plan {
     pub answer: Answer,
-    pub refused: bool,
     // how many of the two stores are done, and what they store: the deadline, then latest
     pub stores: u64,
     pub deadline: u64,
@@ -38,6 +32,7 @@ pub struct Plan {
 // ---- Refusals
 
 // Does the record have the form (rule 4.2)? The settings are in range, so the greatest deadline does not wrap.
+#[tactic(auto, unfolding(observer_rules::specs::Observer::has_form, observer_rules::specs::Observer::form))]
 fn has_form(s: Settings, o: Observer) -> bool
     requires { InRange s }
     ensures { result ≡ has_form s o }
@@ -47,70 +42,88 @@ fn has_form(s: Settings, o: Observer) -> bool
     let deadline_fits = (lease <= o.deadline) & (o.deadline <= messages::TOP_READING + lease);
     counter_fits
         & ((o.deadline == 0) | deadline_fits)
-        & (!(o.deadline == 0) | (o.latest == 0))
+        & ((o.deadline != 0) | (o.latest == 0))
         & (o.last_reading <= messages::TOP_READING)
 }
 
+// Kept: s, o, x and reading stay four parameters: no plainer, because each clause would take a struct of them apart again.
+
 // The refusals that all steps share, the lowest first; 4 has its condition handed in.
-fn shared_refusal(s: Settings, o: Observer, x: u64, bad: bool) -> u32
-    ensures { result ≡ first (shared_refusals s o x bad) }
+#[tactic(auto, using(crate::proofs::Tables::shared_refused, crate::proofs::Tables::shared_decide, settings::proofs::Laws::accepted_in_range), unfolding(words::specs::Said::first))]
+fn accept_shared(s: Settings, o: Observer, x: u64, bad: bool) -> Result<(), Refusal>
+    ensures { number_in result ≡ first (shared_refusals s o x bad) }
 {
-    let number = settings::refusal(s);
-    if number != 0 {
-        return number;
-    }
+    settings::accept(s)?;
     if !has_form(s, o) {
-        return 3;
+        return Err(Refusal::NoForm);
     }
     if bad {
-        return 4;
+        return Err(Refusal::BadReading);
     }
     if s.observers <= x {
-        return 5;
+        return Err(Refusal::NoSuchObserver);
     }
-    0
+    Ok(())
 }
 
-fn request_refusal(s: Settings, o: Observer, x: u64, reading: u64, counter: u64) -> u32
-    ensures { result ≡ first (request_refusals s o x reading counter) }
+// 6 comes behind them.
+#[tactic(auto, using(crate::proofs::Tables::request_refused, crate::proofs::Tables::request_decides))]
+fn accept_request(
+    s: Settings,
+    o: Observer,
+    x: u64,
+    reading: u64,
+    counter: u64,
+) -> Result<(), Refusal>
+    ensures { number_in result ≡ first (request_refusals s o x reading counter) }
 {
-    let number = shared_refusal(s, o, x, bad_reading(o.last_reading, reading));
-    if number != 0 {
-        return number;
-    }
+    accept_shared(s, o, x, bad_reading(o.last_reading, reading))?;
     if (counter == 0) | (messages::TOP_COUNTER < counter) {
-        return 6;
+        return Err(Refusal::BadCounter);
     }
-    0
+    Ok(())
 }
 
-fn cut_refusal(s: Settings, o: Observer, x: u64, reading: u64, counter: u64, stores: u64) -> u32
-    ensures { result ≡ first (cut_refusals s o x reading counter stores) }
+// A cut is a request that is cut, after two stores at most.
+#[tactic(auto, using(crate::proofs::Tables::cut_refused, crate::proofs::Tables::cut_decides), unfolding(words::specs::Said::first))]
+fn accept_cut(
+    s: Settings,
+    o: Observer,
+    x: u64,
+    reading: u64,
+    counter: u64,
+    stores: u64,
+) -> Result<(), Refusal>
+    ensures { number_in result ≡ first (cut_refusals s o x reading counter stores) }
 {
-    let number = request_refusal(s, o, x, reading, counter);
-    if number != 0 {
-        return number;
-    }
+    accept_request(s, o, x, reading, counter)?;
     if 2 < stores {
-        return 9;
+        return Err(Refusal::BadLine);
     }
-    0
+    Ok(())
 }
 
-fn check_refusal(s: Settings, o: Observer, x: u64, reading: u64, ts: u64) -> u32
-    ensures { result ≡ first (check_refusals s o x reading ts) }
+// Of a check, 4 covers the ts too.
+fn accept_check(s: Settings, o: Observer, x: u64, reading: u64, ts: u64) -> Result<(), Refusal>
+    ensures { number_in result ≡ first (check_refusals s o x reading ts) }
 {
     let bad = bad_reading(o.last_reading, reading) | (messages::TOP_READING < ts);
-    shared_refusal(s, o, x, bad)
+    accept_shared(s, o, x, bad)
 }
 
-fn refusal_of(s: Settings, o: Observer, x: u64, reading: u64, event: ObserverEvent) -> u32
-    ensures { result ≡ first (refusals_of s o x reading event) }
+fn accept(
+    s: Settings,
+    o: Observer,
+    x: u64,
+    reading: u64,
+    event: ObserverEvent,
+) -> Result<(), Refusal>
+    ensures { number_in result ≡ first (refusals_of s o x reading event) }
 {
     match event {
-        ObserverEvent::Request(counter) => request_refusal(s, o, x, reading, counter),
-        ObserverEvent::Cut(counter, stores) => cut_refusal(s, o, x, reading, counter, stores),
-        ObserverEvent::Check(ts) => check_refusal(s, o, x, reading, ts),
+        ObserverEvent::Request(counter) => accept_request(s, o, x, reading, counter),
+        ObserverEvent::Cut(counter, stores) => accept_cut(s, o, x, reading, counter, stores),
+        ObserverEvent::Check(ts) => accept_check(s, o, x, reading, ts),
     }
 }
 
@@ -129,18 +142,15 @@ fn status_at(o: Observer, reading: u64) -> Status
 }
 
 // A request is granted, or met with silence; a cut sends nothing; a check is told what the observer has seen.
-#[tactic(auto, unfolding(observer_rules::specs::Observer::answer_of, messages::specs::Answers::said, messages::specs::Answers::words_of))]
+#[tactic(auto, unfolding(observer_rules::specs::Observer::answer_of, messages::specs::Answers::given, messages::specs::Answers::words_of))]
 fn answer_of(o: Observer, reading: u64, event: ObserverEvent) -> Answer
-    ensures { said result ≡ answer_of o reading event }
+    ensures { given result ≡ answer_of o reading event }
 {
     match event {
-        ObserverEvent::Request(counter) => {
-            if o.latest < counter {
-                Answer::Send(Message::LeaseGrant(counter))
-            } else {
-                Answer::Say(Word::Silent)
-            }
+        ObserverEvent::Request(counter) if o.latest < counter => {
+            Answer::Send(Message::LeaseGrant(counter))
         }
+        ObserverEvent::Request(_) => Answer::Say(Word::Silent),
         ObserverEvent::Cut(_, _) => Answer::Say(Word::Cut),
         ObserverEvent::Check(ts) => {
             let status = status_at(o, reading);
@@ -155,9 +165,9 @@ fn how_many(o: Observer, event: ObserverEvent) -> u64
     ensures { result ≡ how_many o event }
 {
     match event {
-        ObserverEvent::Request(counter) => { if o.latest < counter { 2 } else { 0 } }
-        ObserverEvent::Cut(counter, stores) => { if o.latest < counter { stores } else { 0 } }
-        ObserverEvent::Check(_) => 0,
+        ObserverEvent::Request(counter) if o.latest < counter => 2,
+        ObserverEvent::Cut(counter, stores) if o.latest < counter => stores,
+        _ => 0,
     }
 }
 
@@ -166,8 +176,7 @@ fn new_latest(event: ObserverEvent) -> u64
     ensures { result ≡ new_latest event }
 {
     match event {
-        ObserverEvent::Request(counter) => counter,
-        ObserverEvent::Cut(counter, _) => counter,
+        ObserverEvent::Request(counter) | ObserverEvent::Cut(counter, _) => counter,
         ObserverEvent::Check(_) => 0,
     }
 }
@@ -178,99 +187,80 @@ fn reading_after(reading: u64, event: ObserverEvent) -> u64
     ensures { result ≡ reading_after reading event }
 {
     match event {
-        ObserverEvent::Request(_) => reading,
+        ObserverEvent::Request(_) | ObserverEvent::Check(_) => reading,
         ObserverEvent::Cut(_, _) => 0,
-        ObserverEvent::Check(_) => reading,
     }
 }
 
 // The plan of a step. Where it is not refused, settings and reading are in range, so the new deadline does not wrap.
-pub fn plan_of(s: Settings, o: Observer, x: u64, reading: u64, event: ObserverEvent) -> Plan
+#[tactic(auto, using(crate::proofs::Tables::some_number), unfolding(crate::specs::Plan::plan_of))]
+pub fn plan_of(
+    s: Settings,
+    o: Observer,
+    x: u64,
+    reading: u64,
+    event: ObserverEvent,
+) -> Result<Plan, Refusal>
     ensures { planned result ≡ plan_of s o x reading event }
 {
-    let number = refusal_of(s, o, x, reading, event);
-    if number != 0 {
-        return Plan {
-            answer: Answer::Refused(number),
-            refused: true,
-            stores: 0,
-            deadline: 0,
-            latest: 0,
-            last_reading: 0,
-        };
-    }
-    let answer = answer_of(o, reading, event);
-    Plan {
-        answer,
-        refused: false,
+    accept(s, o, x, reading, event)?;
+    Ok(Plan {
+        answer: answer_of(o, reading, event),
         stores: how_many(o, event),
         deadline: reading + s.observer_lease,
         latest: new_latest(event),
         last_reading: reading_after(reading, event),
-    }
-}
-
-// ---- Stores
-
-fn store_deadline(o: Observer, deadline: u64) -> Observer
-    ensures { result ≡ store (Store.deadline deadline) o }
-{
-    let mut next = o;
-    next.deadline = deadline;
-    next
-}
-
-fn store_latest(o: Observer, latest: u64) -> Observer
-    ensures { result ≡ store (Store.latest latest) o }
-{
-    let mut next = o;
-    next.latest = latest;
-    next
-}
-
-fn set_last_reading(o: Observer, reading: u64) -> Observer
-    ensures { result ≡ at_reading reading o }
-{
-    let mut next = o;
-    next.last_reading = reading;
-    next
-}
-
-// The first stores, as many as are told: the deadline, then latest. The cut falls between them.
-fn store_first(o: Observer, count: u64, deadline: u64, latest: u64) -> Observer
-    ensures { result ≡ store_all (take count (in_order deadline latest)) o }
-{
-    if count == 0 {
-        return o;
-    }
-    let under_way = store_deadline(o, deadline);
-    if count == 1 {
-        return under_way;
-    }
-    store_latest(under_way, latest)
+    })
 }
 
 // ---- Steps
 
-// The plan is made and done: the stores, then the last reading. A refusal leaves the record as it came (rule 2.2).
-pub fn step(s: Settings, o: Observer, x: u64, reading: u64, event: ObserverEvent) -> Stepped
+// What a plan leaves of a record: the first stores, as many as it tells, the deadline and then latest; behind them the last
+// reading. The cut falls between the two stores.
+#[tactic(auto, using(crate::proofs::Stored::none_done, crate::proofs::Stored::one_done, crate::proofs::Stored::both_done), unfolding(observer_rules::specs::Observer::store))]
+fn left_by(plan: Plan, o: Observer) -> Observer
+    ensures { result ≡ at_reading plan.last_reading (store_all (take plan.stores (in_order plan.deadline plan.latest)) o) }
+{
+    let mut left = o;
+    if 1 <= plan.stores {
+        left.deadline = plan.deadline;
+    }
+    if 2 <= plan.stores {
+        left.latest = plan.latest;
+    }
+    left.last_reading = plan.last_reading;
+    left
+}
+
+// The plan is made and done. A refusal leaves the record as it came (rule 2.2).
+pub fn step(
+    s: Settings,
+    o: Observer,
+    x: u64,
+    reading: u64,
+    event: ObserverEvent,
+) -> Stepped<Observer>
     ensures { outcome result ≡ step_of s o x reading event }
 {
-    let plan = plan_of(s, o, x, reading, event);
-    let answer = plan.answer;
-    if plan.refused {
-        return Stepped { answer, rec: o };
-    }
-    let stored = store_first(o, plan.stores, plan.deadline, plan.latest);
-    Stepped {
-        answer,
-        rec: set_last_reading(stored, plan.last_reading),
+    match plan_of(s, o, x, reading, event) {
+        Ok(plan) => Stepped {
+            answer: Ok(plan.answer),
+            rec: left_by(plan, o),
+        },
+        Err(refusal) => Stepped {
+            answer: Err(refusal),
+            rec: o,
+        },
     }
 }
 
 // A restart keeps what is stored and forgets the last reading (rule 4.8).
+#[tactic(auto, unfolding(observer_rules::specs::Observer::restart_of))]
 pub fn restart(o: Observer) -> Observer
     ensures { result ≡ restart_of o }
 {
-    set_last_reading(o, 0)
+    Observer {
+        last_reading: 0,
+        ..o
+    }
 }

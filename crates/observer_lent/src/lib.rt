@@ -5,15 +5,16 @@
 
 ghost use Rattle.std.specs.Prelude.{◌≡◌, take};
 ghost use Rattle.messages.specs.Answers.{said};
-ghost use Rattle.messages.specs.Outcomes.{◌leaving◌};
+ghost use Rattle.messages.specs.Outcomes.{◌leaving◌, outcome};
 ghost use Rattle.observer_rules.specs.Observer.{Store, store, store_all, at_reading, step_of};
-ghost use Rattle.observer.specs.Outcome.{outcome};
 ghost use Rattle.observer.specs.Parts.{in_order};
 
-use messages::Answer;
-use observer::Stepped;
+use messages::{Answer, Stepped};
 use observer_rules::{Observer, ObserverEvent};
+use refusals::Refusal;
 use settings::Settings;
+
+// Kept: beside the two stores of `observer::step`, since silent_request_stores, cut_after_one_does_both, stores_swapped edit these.
 
 #[tactic(auto, unfolding(observer_rules::specs::Observer::store))]
 fn store_deadline(o: &mut Observer, deadline: u64)
@@ -37,7 +38,7 @@ fn set_last_reading(o: &mut Observer, reading: u64)
 
 // The first stores, as many as are told: the deadline, then latest. Whatever the count, the record is what the first so many
 // leave: a cut returns between the two.
-#[tactic(auto, using(crate::proofs::Stored::none_done, crate::proofs::Stored::one_done, crate::proofs::Stored::both_done))]
+#[tactic(auto, using(observer::proofs::Stored::none_done, observer::proofs::Stored::one_done, observer::proofs::Stored::both_done))]
 fn store_first(o: &mut Observer, count: u64, deadline: u64, latest: u64)
     ensures { o.new ≡ store_all (take count (in_order deadline latest)) o.old }
 {
@@ -58,23 +59,26 @@ pub fn step_lent(
     x: u64,
     reading: u64,
     event: ObserverEvent,
-) -> Answer
+) -> Result<Answer, Refusal>
     ensures { (said result leaving o.new) ≡ step_of s o.old x reading event }
 {
-    let plan = observer::plan_of(s, *o, x, reading, event);
-    if plan.refused {
-        return plan.answer;
-    }
+    let plan = observer::plan_of(s, *o, x, reading, event)?;
     store_first(&mut *o, plan.stores, plan.deadline, plan.latest);
     set_last_reading(&mut *o, plan.last_reading);
-    plan.answer
+    Ok(plan.answer)
 }
 
 // For a caller that has the record by value: it is lent to the step, and comes back beside the answer.
-pub fn lend_to_step(s: Settings, o: Observer, x: u64, reading: u64, event: ObserverEvent) -> Stepped
+pub fn lend_to_step(
+    s: Settings,
+    o: Observer,
+    x: u64,
+    reading: u64,
+    event: ObserverEvent,
+) -> Stepped<Observer>
     ensures { outcome result ≡ step_of s o x reading event }
 {
-    let mut own = o;
-    let answer = step_lent(&mut own, s, x, reading, event);
-    Stepped { answer, rec: own }
+    let mut rec = o;
+    let answer = step_lent(&mut rec, s, x, reading, event);
+    Stepped { answer, rec }
 }

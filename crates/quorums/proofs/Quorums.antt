@@ -1,11 +1,13 @@
 -- Sets of observers: quorums meet, none is lost as a set grows, and nobody is none.
-use Rattle.std.specs.Prelude.{if◌then◌else◌}
+use Rattle.std.specs.Prelude.{if◌then◌else◌, cond}
+use Rattle.std.specs.List.{count_by}
+use Rattle.std.proofs.lemmas.List.Recursion.{is_count_by}
 use Prim.Native.Nat.{ℕ, zero, suc, ◌+◌, ◌-◌, ◌<◌, ◌≤◌}
 use native.Mathlib.Omega.{arith}
 use native.Mathlib.Nat.{le_refl, le_trans}
-use mathlib.Core.Path.{◌≡◌, refl}
+use mathlib.Core.Path.{◌≡◌, refl, sym}
 use mathlib.Core.Bool.{Bool, true, false, not}
-use mathlib.Core.List.{List, []}
+use mathlib.Core.List.{List, [], ◌∷◌}
 use lib.ListN.{get_or, take}
 use lib.Seq.{take-nil}
 use borrow.Author.Tests.{leb-true, le-leb, lt-leb, not-true}
@@ -18,6 +20,16 @@ use Rattle.settings.specs.declared.Settings.{Settings}
 use Rattle.settings.specs.Settings.{n, t, refusal_of}
 use Rattle.quorums.specs.Quorums.{◌∋◌, members, survives, closes, QuorumsMeet, QuorumsGrow}
 use Rattle.settings.proofs.Laws.{accepted_in_range}
+
+-- the library counts as `count_where` does
+pub members_counted : (s : Settings) (set : List Bool) → count_by (λ mark. mark) (take (n s) set) ≡ members s set
+unfolding members count_where
+members_counted s set = sym (is_count_by (count_where (λ mark. mark)) (λ mark. mark) refl more (take (n s) set))
+  where
+    more : (mark : Bool) (marks : List Bool)
+        → count_where (λ mark. mark) (mark ∷ marks) ≡ cond mark (1 + count_where (λ mark. mark) marks) (count_where (λ mark. mark) marks)
+    more true marks = omega arith
+    more false marks = refl
 
 -- how many of the first k are in the set
 abbrev marks : ℕ → List Bool → ℕ

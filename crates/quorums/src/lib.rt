@@ -2,22 +2,20 @@
 // share an observer, and that a set keeps its quorums as it grows. Serves rule 1.9.
 #![tactic(auto)]
 
-ghost use Rattle.std.specs.Prelude.{◌≡◌};
-ghost use Rattle.quorums.specs.Quorums.{members, survives, closes, QuorumsMeet, QuorumsGrow};
+ghost use Rattle.std.specs.Prelude.{◌≡◌, count_by, take};
+ghost use Rattle.settings.specs.Settings.{n};
+ghost use Rattle.quorums.specs.Quorums.{survives, closes, QuorumsMeet, QuorumsGrow};
 
-use settings::{MOST_OBSERVERS, Settings, less};
+use settings::{MOST_OBSERVERS, Settings};
 
 // How many of the n observers are in the set. One mark for each observer, by number; marks from n on count nothing.
 fn count_members(s: Settings, set: [bool; MOST_OBSERVERS]) -> u64
-    ensures { result ≡ members s set }
+    ensures { result ≡ count_by (λ mark. mark) (take (n s) set) }
 {
-    let mut count: u64 = 0;
-    for i in 0..MOST_OBSERVERS {
-        if ((i as u64) < s.observers) & set[i] {
-            count += 1;
-        }
-    }
-    count
+    set.iter()
+        .take(s.observers as usize)
+        .filter(|mark| **mark)
+        .count() as u64
 }
 
 // Does the set contain a survival quorum?
@@ -31,7 +29,7 @@ pub fn contains_survival_quorum(s: Settings, set: [bool; MOST_OBSERVERS]) -> boo
 pub fn contains_query_quorum(s: Settings, set: [bool; MOST_OBSERVERS]) -> bool
     ensures { result ≡ closes s set }
 {
-    less(s.observers, s.survival) < count_members(s, set)
+    s.observers.saturating_sub(s.survival) < count_members(s, set)
 }
 
 // A set with a survival quorum and a set with a query quorum share an observer.

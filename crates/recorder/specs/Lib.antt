@@ -1,3 +1,2 @@
--- What the recorder's step returns, and its parts.
-pub mod Outcome
+-- The parts of the recorder's step.
 pub mod Parts

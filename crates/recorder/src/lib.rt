@@ -6,83 +6,68 @@
 ghost use Rattle.std.specs.Prelude.{◌≡◌, ◌<◌};
 ghost use Rattle.settings.specs.Settings.{most_observers};
 ghost use Rattle.words.specs.Said.{first};
-ghost use Rattle.messages.specs.Answers.{said};
-ghost use Rattle.recorder_rules.specs.Recorder.{step_refusals, grant_refusals, standing, higher, tick_event, grant_event, drive_event, refusals_of, event_of, step_of};
-ghost use Rattle.recorder.specs.Outcome.{outcome};
-ghost use Rattle.recorder.specs.Parts.{Roomy, Ready};
+ghost use Rattle.refusals.specs.Refusals.{number_in};
+ghost use Rattle.messages.specs.Answers.{given};
+ghost use Rattle.messages.specs.Outcomes.{outcome, ◌leaving◌};
+ghost use Rattle.recorder_rules.specs.Recorder.{step_refusals, standing, tick_event, grant_event, refusals_of, event_of, step_of};
+ghost use Rattle.recorder.specs.Parts.{grant_lines, Roomy, Ready};
 
-use messages::{Answer, Message, Word, bad_reading};
+use messages::{Answer, Message, Stepped, Word, bad_reading};
 use recorder_form::has_form;
-use recorder_leases::{advance, is_granted_above};
+use recorder_leases::{Advanced, advance, is_granted_above};
 use recorder_rules::{Recorder, RecorderEvent};
-use settings::{Settings, less};
+use refusals::Refusal;
+use settings::Settings;
 
-// A step's answer, and the record that it leaves.
-#[derive(Clone, Copy)]
-pub struct Stepped {
-    pub answer: Answer,
-    pub rec: Recorder,
-}
-
-fn higher_of(x: u64, y: u64) -> u64
-    ensures { result ≡ higher x y }
-{
-    if x < y { y } else { x }
-}
+// Kept: settings, record and reading as three parameters: no plainer as one struct, since an event has another record than its step.
 
 // ---- Refusals
 
-// The number 1 to 4 of the refusal, or 0.
-fn step_refusal(s: Settings, rec: Recorder, reading: u64) -> u32
-    ensures { result ≡ first (step_refusals s rec reading) }
+// The table that every step has: refusals 1 to 4.
+#[tactic(auto, unfolding(words::specs::Said::first, settings::specs::Settings::refusal_of))]
+fn accept_step(s: Settings, rec: Recorder, reading: u64) -> Result<(), Refusal>
+    ensures { number_in result ≡ first (step_refusals s rec reading) }
 {
-    let number = settings::refusal(s);
-    if number != 0 {
-        return number;
-    }
+    settings::accept(s)?;
     if !has_form(s, rec) {
-        return 3;
+        return Err(Refusal::NoForm);
     }
     if bad_reading(rec.last_reading, reading) {
-        4
-    } else {
-        0
+        return Err(Refusal::BadReading);
     }
+    Ok(())
 }
 
-// The number 1 to 6 of the refusal of a grant, or 0.
-fn grant_refusal(s: Settings, rec: Recorder, reading: u64, observer: u64, number: u64) -> u32
-    ensures { result ≡ first (grant_refusals s rec reading observer number) }
+// A grant's table goes on with refusals 5 and 6.
+#[tactic(auto, unfolding(words::specs::Said::first))]
+fn accept_grant(s: Settings, rec: Recorder, observer: u64, number: u64) -> Result<(), Refusal>
+    ensures { number_in result ≡ first (grant_lines s rec observer number) }
 {
-    let refused = step_refusal(s, rec, reading);
-    if refused != 0 {
-        return refused;
-    }
     if s.observers <= observer {
-        return 5;
+        return Err(Refusal::NoSuchObserver);
     }
     if (number == 0) | (rec.counter < number) {
-        6
-    } else {
-        0
+        return Err(Refusal::BadCounter);
     }
+    Ok(())
 }
 
-fn refusal_of(s: Settings, rec: Recorder, reading: u64, event: RecorderEvent) -> u32
-    ensures { result ≡ first (refusals_of s rec reading event) }
+fn accept(s: Settings, rec: Recorder, reading: u64, event: RecorderEvent) -> Result<(), Refusal>
+    ensures { number_in result ≡ first (refusals_of s rec reading event) }
 {
+    accept_step(s, rec, reading)?;
     match event {
-        RecorderEvent::Tick => step_refusal(s, rec, reading),
-        RecorderEvent::Grant(observer, number) => grant_refusal(s, rec, reading, observer, number),
-        RecorderEvent::Drive => step_refusal(s, rec, reading),
+        RecorderEvent::Grant(observer, number) => accept_grant(s, rec, observer, number),
+        RecorderEvent::Tick | RecorderEvent::Drive => Ok(()),
     }
 }
 
 // ---- Events
 
-// The answer where no message is sent.
+// The word where no message is sent: rule 3.11.
+#[tactic(auto, unfolding(messages::specs::Answers::given, messages::specs::Answers::words_of, recorder_rules::specs::Recorder::standing, recorder_rules::specs::Recorder::registered))]
 fn word_of(s: Settings, rec: Recorder) -> Answer
-    ensures { said result ≡ standing s rec }
+    ensures { given result ≡ standing s rec }
 {
     if is_granted_above(s, rec, 0) {
         Answer::Say(Word::Running)
@@ -91,12 +76,24 @@ fn word_of(s: Settings, rec: Recorder) -> Answer
     }
 }
 
+// No message is sent, and the record stays as it is: all that a drive does.
+#[tactic(auto, unfolding(messages::specs::Answers::said))]
+fn stand(s: Settings, rec: Recorder) -> Stepped<Recorder>
+    ensures { outcome result ≡ (standing s rec leaving rec) }
+{
+    Stepped {
+        answer: Ok(word_of(s, rec)),
+        rec,
+    }
+}
+
 // Tick: rule 3.8. There is a place for the new lease, since no more than 63 can be open when it is due.
-fn tick_event(s: Settings, rec: Recorder, reading: u64) -> Stepped
+#[tactic(auto, unfolding(recorder_rules::specs::Recorder::tick_event, messages::specs::Answers::said, messages::specs::Answers::given))]
+fn tick_event(s: Settings, rec: Recorder, reading: u64) -> Stepped<Recorder>
     requires { Roomy s rec reading }
     ensures { outcome result ≡ tick_event s reading rec }
 {
-    if (rec.counter == 0) | (s.interval <= less(reading, rec.last_send)) {
+    if (rec.counter == 0) | (s.interval <= reading.saturating_sub(rec.last_send)) {
         let newest = rec.open_leases as usize;
         let mut asked = rec;
         asked.counter = rec.counter + 1;
@@ -104,72 +101,57 @@ fn tick_event(s: Settings, rec: Recorder, reading: u64) -> Stepped
         asked.open_leases = rec.open_leases + 1;
         asked.sends[newest] = reading;
         Stepped {
-            answer: Answer::Send(Message::LeaseRequest(rec.counter + 1)),
+            answer: Ok(Answer::Send(Message::LeaseRequest(rec.counter + 1))),
             rec: asked,
         }
     } else {
-        let answer = word_of(s, rec);
-        Stepped { answer, rec }
+        stand(s, rec)
     }
 }
 
 // Grant: rule 3.9.
-fn grant_event(s: Settings, rec: Recorder, observer: u64, number: u64) -> Stepped
+#[tactic(auto, unfolding(recorder_rules::specs::Recorder::grant_event))]
+fn grant_event(s: Settings, rec: Recorder, observer: u64, number: u64) -> Stepped<Recorder>
     requires { observer < most_observers }
     ensures { outcome result ≡ grant_event s observer number rec }
 {
-    let grants = rec.grants;
     let place = observer as usize;
     let mut raised = rec;
-    raised.grants[place] = higher_of(grants[place], number);
-    let answer = word_of(s, raised);
-    Stepped {
-        answer,
-        rec: raised,
-    }
-}
-
-// drive: nothing.
-fn drive_event(s: Settings, rec: Recorder) -> Stepped
-    ensures { outcome result ≡ drive_event s rec }
-{
-    let answer = word_of(s, rec);
-    Stepped { answer, rec }
+    raised.grants[place] = rec.grants[place].max(number);
+    stand(s, raised)
 }
 
 // What the event does with the record at it, once the ended leases are gone. An accepted grant has its place.
-fn event_of(s: Settings, rec: Recorder, reading: u64, event: RecorderEvent) -> Stepped
+// Kept: a match, no plainer otherwise, because each event's function takes arguments of its own.
+#[tactic(auto, unfolding(recorder_rules::specs::Recorder::drive_event))]
+fn event_of(s: Settings, rec: Recorder, reading: u64, event: RecorderEvent) -> Stepped<Recorder>
     requires { Ready s rec reading event }
     ensures { outcome result ≡ event_of s reading event rec }
 {
     match event {
         RecorderEvent::Tick => tick_event(s, rec, reading),
         RecorderEvent::Grant(observer, number) => grant_event(s, rec, observer, number),
-        RecorderEvent::Drive => drive_event(s, rec),
+        RecorderEvent::Drive => stand(s, rec),
     }
 }
 
 // ---- Steps
 
 // Refusals first (rule 2.2), then what every accepted step does, only then the event.
-pub fn step(s: Settings, rec: Recorder, reading: u64, event: RecorderEvent) -> Stepped
+pub fn step(s: Settings, rec: Recorder, reading: u64, event: RecorderEvent) -> Stepped<Recorder>
     ensures { outcome result ≡ step_of s rec reading event }
 {
-    let refused = refusal_of(s, rec, reading, event);
-    if refused != 0 {
+    if let Err(refusal) = accept(s, rec, reading, event) {
         return Stepped {
-            answer: Answer::Refused(refused),
+            answer: Err(refusal),
             rec,
         };
     }
-    let at_event = advance(s, rec, reading);
-    let going_on = at_event.rec;
-    if at_event.goes_on {
-        event_of(s, going_on, reading, event)
-    } else {
-        Stepped {
-            answer: Answer::Say(Word::Stopped),
-            rec: going_on,
-        }
+    match advance(s, rec, reading) {
+        Advanced::GoesOn(going_on) => event_of(s, going_on, reading, event),
+        Advanced::Stopped(halted) => Stepped {
+            answer: Ok(Answer::Say(Word::Stopped)),
+            rec: halted,
+        },
     }
 }

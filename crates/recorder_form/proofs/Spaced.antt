@@ -1,30 +1,15 @@
--- The spacing of the open leases, walked by an index i: one pair more, and the end.
-use Prim.Native.Nat.{ℕ, ◌+◌, ◌-◌, ◌≤◌, ◌<◌}
-use native.Mathlib.Omega.{arith}
-use native.Mathlib.Nat.{not-suc-le-zero, le_of_suc-le-suc}
-use mathlib.Core.Path.{◌≡◌, refl, sym, ◌∙◌}
-use mathlib.Core.Bool.{Bool, true, ◌&&◌, and_assoc, and-true}
+-- The spacing of the open leases, pair by pair: each send reading beside the next.
+use Prim.Native.Nat.{ℕ, ◌-◌}
+use mathlib.Core.Path.{◌≡◌, refl, ap}
+use mathlib.Core.Bool.{Bool, ◌&&◌}
 use mathlib.Core.List.{List, [], ◌∷◌}
-use lib.ListN.{length, drop, get_or, length-drop}
+use Rattle.std.specs.Prelude.{drop, zip}
 use Rattle.words.specs.Tests.{◌≤?◌}
-use Rattle.words.proofs.Walks.{next}
+use Rattle.words.specs.Lists.{every}
 use Rattle.recorder_rules.specs.Recorder.{spaced}
 
-module _ (apart : ℕ) (xs : List ℕ) (i : ℕ) where
-  pub spaced_more : {all : Bool} (ok : Bool) → i + 1 < length xs → all ≡ (ok && spaced apart (drop i xs))
-      → all ≡ (ok && (apart ≤? get_or xs (i + 1) 0 - get_or xs i 0) && spaced apart (drop (i + 1) xs))
-  unfolding spaced
-  spaced_more ok h e =
-      e
-      ∙ rw (next 0 xs i (omega arith), next 0 xs (i + 1) h)
-      (sym (and_assoc ok (apart ≤? get_or xs (i + 1) 0 - get_or xs i 0) (spaced apart (get_or xs (i + 1) 0 ∷ drop (i + 1 + 1) xs))))
-
-  short : (ys : List ℕ) → length ys ≤ 1 → spaced apart ys ≡ true
-  unfolding spaced
-  short [] h = refl
-  short (y ∷ []) h = refl
-  short (y ∷ z ∷ ys) h = absurd (not-suc-le-zero (le_of_suc-le-suc h))
-
-  pub spaced_done : {all : Bool} (ok : Bool) → length xs ≤ i + 1 → all ≡ (ok && spaced apart (drop i xs)) → ok ≡ all
-  spaced_done ok h e =
-      sym (e ∙ rw (short (drop i xs) (rw (length-drop i xs) (omega arith))) (and-true ok))
+pub in_pairs : (apart : ℕ) (xs : List ℕ) → every (λ (pair : ℕ × ℕ). apart ≤? pair.1 - pair.0) (zip xs (drop 1 xs)) ≡ spaced apart xs
+unfolding spaced
+in_pairs apart [] = refl
+in_pairs apart (x ∷ []) = refl
+in_pairs apart (x ∷ y ∷ zs) = ap (λ (b : Bool). (apart ≤? y - x) && b) (in_pairs apart (y ∷ zs))

@@ -5,8 +5,8 @@ use Prim.Native.Nat.{ℕ, suc, ◌+◌, ◌-◌, ◌≤◌, ◌<◌}
 use native.Mathlib.Omega.{arith}
 use native.Mathlib.Nat.{add_assoc}
 use native.Mathlib.Numerals.{add-one}
-use mathlib.Core.Path.{◌≡◌, refl, sym, ap, ◌∙◌}
-use mathlib.Core.Bool.{Bool, true, false, ◌||◌, not, or_assoc, or-false}
+use mathlib.Core.Path.{◌≡◌, refl, ap, ◌∙◌}
+use mathlib.Core.Bool.{Bool, true, false, and-false}
 use mathlib.Core.List.{List, [], ◌∷◌, ◌++◌, append_assoc, append-nil}
 use lib.ListN.{length, take, drop, get_or, set, replicate, length-append, drop_of_length-le}
 use lib.Seq.{take-suc, set_at}
@@ -16,30 +16,28 @@ use Rattle.quorums.specs.Quorums.{survives}
 use Rattle.recorder_rules.specs.declared.Recorder.{Recorder}
 use Rattle.recorder_rules.specs.Recorder.{granted, has_ended, lacking_from, kept, placed}
 
--- ---- Leases that lack grants: one lease more that has ended, or has not, and the end
+-- ---- Leases that lack grants: one lease more that lacks none, since it has not ended or has them; one that does; and the end
 
-module _ (s : Settings) (rec : Recorder) (r oldest : ℕ) (xs : List ℕ) (i : ℕ) where
-  pub lacking_ended : {any : Bool} (lacks : Bool) → i < length xs → has_ended s r (get_or xs i 0) ≡ true
-      → any ≡ (lacks || lacking_from s rec r (oldest + i) (drop i xs))
-      → any ≡ (lacks || not (survives s (granted rec (oldest + i + 1))) || lacking_from s rec r (oldest + (i + 1))
-      (drop (i + 1) xs))
+module _ (s : Settings) (rec : Recorder) (r oldest : ℕ) (xs : List ℕ) (i : ℕ) {any : Bool}
+    (to_come : any ≡ lacking_from s rec r (oldest + i) (drop i xs)) where
+  pub lacking_kept : i < length xs → has_ended s r (get_or xs i 0) ≡ false
+      → any ≡ lacking_from s rec r (oldest + (i + 1)) (drop (i + 1) xs)
   unfolding lacking_from
-  lacking_ended lacks h ended e =
-      e
-      ∙ rw (next 0 xs i h, ended, ← (add_assoc oldest i 1))
-      (sym (or_assoc lacks (not (survives s (granted rec (oldest + i + 1))))
-      (lacking_from s rec r (oldest + i + 1) (drop (i + 1) xs))))
+  lacking_kept h young = to_come ∙ rw (next 0 xs i h, young, ← (add_assoc oldest i 1))
 
-  pub lacking_kept : {any : Bool} (lacks : Bool) → i < length xs → has_ended s r (get_or xs i 0) ≡ false
-      → any ≡ (lacks || lacking_from s rec r (oldest + i) (drop i xs))
-      → any ≡ (lacks || lacking_from s rec r (oldest + (i + 1)) (drop (i + 1) xs))
+  pub lacking_renewed : i < length xs → survives s (granted rec (oldest + i + 1)) ≡ true
+      → any ≡ lacking_from s rec r (oldest + (i + 1)) (drop (i + 1) xs)
   unfolding lacking_from
-  lacking_kept lacks h young e = e ∙ rw (next 0 xs i h, young, ← (add_assoc oldest i 1))
+  lacking_renewed h renewed = to_come ∙ rw (next 0 xs i h, renewed, and-false, ← (add_assoc oldest i 1))
 
-  pub lacking_done : {any : Bool} (lacks : Bool) → length xs ≤ i
-      → any ≡ (lacks || lacking_from s rec r (oldest + i) (drop i xs)) → lacks ≡ any
+  pub lacking_found : i < length xs → has_ended s r (get_or xs i 0) ≡ true → survives s (granted rec (oldest + i + 1)) ≡ false
+      → any ≡ true
   unfolding lacking_from
-  lacking_done lacks h e = sym (e ∙ rw (drop_of_length-le xs {i = i} h) (or-false lacks))
+  lacking_found h ended lacks = to_come ∙ rw (next 0 xs i h, ended, lacks)
+
+  pub lacking_done : length xs ≤ i → any ≡ false
+  unfolding lacking_from
+  lacking_done h = to_come ∙ rw (drop_of_length-le xs {i = i} h)
 
 -- ---- Leases that are kept
 

@@ -1,2 +1,3 @@
 -- Laws of the open leases.
 pub mod Leases
+pub mod Mapped

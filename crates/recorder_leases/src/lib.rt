@@ -2,126 +2,93 @@
 // grants that 3.11 asks for too. Nothing is required of the record: what is ensured holds of any.
 #![tactic(auto)]
 
-ghost use Rattle.std.specs.Prelude.{◌≡◌, map, ◌+◌, ◌-◌, ◌<◌, min};
+ghost use Rattle.std.specs.Prelude.{◌≡◌, map, ◌+◌};
 ghost use Rattle.words.specs.Tests.{◌<?◌};
-ghost use Rattle.settings.specs.Settings.{most_leases};
 ghost use Rattle.quorums.specs.Quorums.{survives};
 ghost use Rattle.recorder_rules.specs.Recorder.{granted};
 ghost use Rattle.recorder_leases.specs.Advanced.{advanced_to};
-ghost use Rattle.recorder_leases.specs.Parts.{SiftedAt};
+ghost use Rattle.recorder_leases.specs.Parts.{sifted};
 
 use quorums::contains_survival_quorum;
 use recorder_rules::Recorder;
-use settings::{MOST_LEASES, MOST_OBSERVERS, Settings, less};
+use settings::{MOST_LEASES, MOST_OBSERVERS, Settings};
 
-// The open leases at a reading: does one that has ended lack grants, and which have not ended.
+// The open leases that have not ended, in their places.
+// Kept: a count beside the places, as in the record that they go into: the C interface.
 #[derive(Clone, Copy)]
-struct Sifted {
-    lacking: bool,
+struct Left {
     count: u64,
     sends: [u64; MOST_LEASES],
 }
 
 // The record at a step's event, or that of a recorder that has stopped.
 #[derive(Clone, Copy)]
-pub struct Advanced {
-    pub goes_on: bool,
-    pub rec: Recorder,
+pub enum Advanced {
+    GoesOn(Recorder),
+    Stopped(Recorder),
 }
 
 // The observers that have granted more than `number`.
 fn granted_above(grants: [u64; MOST_OBSERVERS], number: u64) -> [bool; MOST_OBSERVERS]
     ensures { result ≡ map (λ grant. number <? grant) grants }
 {
-    let mut set = [false; MOST_OBSERVERS];
-    for i in 0..MOST_OBSERVERS {
-        set[i] = number < grants[i];
-    }
-    set
+    grants.map(|grant| number < grant)
 }
 
 // Has a survival quorum granted `number` + 1 or higher?
 pub fn is_granted_above(s: Settings, rec: Recorder, number: u64) -> bool
     ensures { result ≡ survives s (granted rec (number + 1)) }
 {
-    let grants = rec.grants;
-    let set = granted_above(grants, number);
-    contains_survival_quorum(s, set)
+    contains_survival_quorum(s, granted_above(rec.grants, number))
 }
 
-// How many leases stand in the places, if so many are open.
-fn placed_count(open_leases: u64) -> usize
-    ensures { result ≡ min open_leases most_leases }
+// Each open lease i with reading - send ≥ P has ended: lease i + 1 must then have its grants. Gives the leases that have not
+// ended, or None where one that has lacks them. One pass; a quorum is counted only for leases that have ended.
+fn sift(s: Settings, rec: Recorder, reading: u64) -> Option<Left>
+    ensures { result ≡ sifted s rec reading }
 {
-    if (MOST_LEASES as u64) < open_leases {
-        MOST_LEASES
-    } else {
-        open_leases as usize
-    }
-}
-
-// The number of the lease at place i.
-fn number_at(counter: u64, open_leases: u64, i: u64) -> u64
-    requires { (i < open_leases) × (i < most_leases) }
-    ensures { result ≡ counter - open_leases + 1 + i }
-{
-    less(counter, open_leases) + i + 1
-}
-
-// Each open lease i with reading - send ≥ P has ended: lease i + 1 must then have its grants. One pass; a quorum is counted
-// only for leases that have ended.
-fn sift(s: Settings, rec: Recorder, reading: u64) -> Sifted
-    ensures { SiftedAt s rec reading result }
-{
-    let open_leases = placed_count(rec.open_leases);
-    let places = rec.sends;
-    let mut lacks = false;
+    let open = rec.open_leases.min(MOST_LEASES as u64) as usize;
     let mut count: usize = 0;
     let mut sends = [0u64; MOST_LEASES];
-    for i in 0..open_leases {
-        let send = places[i];
-        if s.recorder_lease <= less(reading, send) {
-            let number = number_at(rec.counter, rec.open_leases, i as u64);
-            lacks = lacks | !is_granted_above(s, rec, number);
+    for (i, send) in rec.sends[..open].iter().enumerate() {
+        if s.recorder_lease <= reading.saturating_sub(*send) {
+            let number = rec.counter.saturating_sub(rec.open_leases) + (i as u64) + 1;
+            if !is_granted_above(s, rec, number) {
+                return None;
+            }
         } else {
-            sends[count] = send;
+            sends[count] = *send;
             count += 1;
         }
     }
-    Sifted {
-        lacking: lacks,
+    Some(Left {
         count: count as u64,
         sends,
-    }
+    })
 }
 
 // Stopped first, then the ended leases: only a step that goes on from here comes to its event.
+#[tactic(auto, unfolding(crate::specs::Advanced::advanced_to, crate::specs::Parts::sifted, recorder_rules::specs::Recorder::advanced))]
 pub fn advance(s: Settings, rec: Recorder, reading: u64) -> Advanced
     ensures { result ≡ advanced_to s rec reading }
 {
     if rec.stopped != 0 {
-        return Advanced {
-            goes_on: false,
-            rec,
-        };
+        return Advanced::Stopped(rec);
     }
-    let left = sift(s, rec, reading);
-    if left.lacking {
-        let mut halted = rec;
-        halted.stopped = 1;
-        halted.last_reading = reading;
-        return Advanced {
-            goes_on: false,
-            rec: halted,
-        };
-    }
-    let places = left.sends;
-    let mut cleared = rec;
-    cleared.last_reading = reading;
-    cleared.open_leases = left.count;
-    cleared.sends = places;
-    Advanced {
-        goes_on: true,
-        rec: cleared,
+    match sift(s, rec, reading) {
+        None => {
+            let mut halted = rec;
+            halted.stopped = 1;
+            halted.last_reading = reading;
+            Advanced::Stopped(halted)
+        }
+        Some(left) => {
+            let sends = left.sends;
+            let mut cleared = rec;
+            cleared.last_reading = reading;
+            cleared.open_leases = left.count;
+            cleared.sends = sends;
+            Advanced::GoesOn(cleared)
+        }
     }
 }

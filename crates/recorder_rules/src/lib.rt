@@ -9,6 +9,7 @@ ghost use Rattle.recorder_rules.specs.Claims.{FormIsKept, StoppedStays, GrantsNe
 use settings::{MOST_LEASES, MOST_OBSERVERS};
 
 // The record of rule 3.1, in its order: 85 numbers.
+// Kept: numbers, with a flag and a count among them: the C interface hands in 85 words, and rule 3.2 judges any of them.
 #[derive(Clone, Copy)]
 pub struct Recorder {
     // 0, or 1 once the recorder has stopped for good
@@ -34,6 +35,7 @@ pub enum RecorderEvent {
 }
 
 // A run starts with every number 0.
+// Kept: written out, no plainer by a derived Default, which says of each place alone that it is 0, where this is one equation.
 pub fn fresh_recorder() -> Recorder
     ensures { result ≡ fresh }
 {

@@ -1,5 +1,5 @@
 -- The records of a rack, and each line's step on the record of its party. The steps are the parties' own definitions.
-use Rattle.std.specs.Prelude.{ℕ, List, get_or, set, replicate}
+use Rattle.std.specs.Prelude.{ℕ, List, get_or, set, replicate, Option, Some, None}
 use Rattle.settings.specs.declared.Settings.{Settings}
 use Rattle.settings.specs.Settings.{most_observers}
 use Rattle.messages.specs.Answers.{refuses}
@@ -59,11 +59,11 @@ with_standby session o =
     }
 
 -- A line's step, which is its party's own. A line of no form gets 9.
-unfoldable pub perform_of : Session → StepLine → Outcome Session
-perform_of session (line.Recorder r event) =
+unfoldable pub perform_of : Session → Option StepLine → Outcome Session
+perform_of session (Some (line.Recorder r event)) =
     with_recorder session (recorderOf session.settings session.recorder r event)
-perform_of session (line.Observer x r event) =
+perform_of session (Some (line.Observer x r event)) =
     with_observer session x (observerOf session.settings (observer_at session.observers x) x r event)
-perform_of session (line.Standby r event) =
+perform_of session (Some (line.Standby r event)) =
     with_standby session (standbyOf session.settings session.standby r event)
-perform_of session line.Bad = refuses 9 leaving session
+perform_of session None = refuses 9 leaving session

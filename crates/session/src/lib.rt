@@ -4,13 +4,13 @@
 
 ghost use Rattle.std.specs.Prelude.{◌≡◌, set};
 ghost use Rattle.observer_rules.specs.Observer.{fresh as freshObserver};
+ghost use Rattle.standby_rules.specs.Standby.{fresh as freshStandby};
 ghost use Rattle.session.specs.Session.{started, observer_at};
 
-use messages::Status;
 use observer_rules::Observer;
 use recorder_rules::{Recorder, fresh_recorder};
 use settings::{MOST_OBSERVERS, Settings};
-use standby_rules::{Place, Standby};
+use standby_rules::{Standby, UNUSED};
 
 #[derive(Clone, Copy)]
 pub struct Session {
@@ -31,26 +31,26 @@ fn fresh_observer() -> Observer
     }
 }
 
+fn fresh_standby() -> Standby
+    ensures { result ≡ freshStandby }
+{
+    Standby {
+        open_flag: false,
+        ts: 0,
+        last_reading: 0,
+        places: [UNUSED; MOST_OBSERVERS],
+    }
+}
+
 // A run starts with every field of every record 0.
 pub fn start(s: Settings) -> Session
     ensures { result ≡ started s }
 {
-    let place = Place {
-        kept: false,
-        counter: 0,
-        status: Status::Alive,
-    };
-    let observer = fresh_observer();
     Session {
         settings: s,
         recorder: fresh_recorder(),
-        observers: [observer; MOST_OBSERVERS],
-        standby: Standby {
-            open_flag: false,
-            ts: 0,
-            last_reading: 0,
-            places: [place; MOST_OBSERVERS],
-        },
+        observers: [fresh_observer(); MOST_OBSERVERS],
+        standby: fresh_standby(),
     }
 }
 
@@ -58,11 +58,8 @@ pub fn start(s: Settings) -> Session
 pub fn observer_at(observers: [Observer; MOST_OBSERVERS], x: u64) -> Observer
     ensures { result ≡ observer_at observers x }
 {
-    if x < MOST_OBSERVERS as u64 {
-        let place = x as usize;
-        return observers[place];
-    }
-    fresh_observer()
+    let kept = observers.get(x as usize).copied();
+    kept.unwrap_or(fresh_observer())
 }
 
 // The records with that of observer x as it was left.
@@ -73,11 +70,9 @@ pub fn with_observer(
 ) -> [Observer; MOST_OBSERVERS]
     ensures { result ≡ set observers x left }
 {
-    if MOST_OBSERVERS as u64 <= x {
-        return observers;
-    }
-    let place = x as usize;
     let mut next = observers;
-    next[place] = left;
+    if x < MOST_OBSERVERS as u64 {
+        next[x as usize] = left;
+    }
     next
 }

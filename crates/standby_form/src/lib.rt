@@ -7,26 +7,24 @@ ghost use Rattle.standby_rules.specs.Standby.{is_dead, is_unused, good_place, ke
 
 use messages::{Status, TOP_COUNTER, TOP_READING};
 use settings::{MOST_OBSERVERS, Settings};
-use standby_rules::{Place, Standby};
+use standby_rules::{Place, Standby, UNUSED};
 
+// Kept: the derived equality under a name, since the edit `dead_is_alive` and a row of docs/PROMISES.md hold this function.
 #[tactic(auto, unfolding(standby_rules::specs::Standby::is_dead))]
 pub fn is_dead(status: Status) -> bool
     ensures { result ≡ is_dead status }
 {
-    match status {
-        Status::Alive => false,
-        Status::Dead => true,
-    }
+    status == Status::Dead
 }
 
 // Nothing is kept, all 0.
 fn is_unused(place: Place) -> bool
     ensures { result ≡ is_unused place }
 {
-    let status = place.status;
-    !place.kept & (place.counter == 0) & !is_dead(status)
+    place == UNUSED
 }
 
+#[tactic(auto, unfolding(standby_rules::specs::Standby::good_place))]
 fn is_good(place: Place) -> bool
     ensures { result ≡ good_place place }
 {
@@ -36,50 +34,36 @@ fn is_good(place: Place) -> bool
 fn all_good(places: [Place; MOST_OBSERVERS]) -> bool
     ensures { result ≡ every good_place places }
 {
-    let mut ok = true;
-    for i in 0..MOST_OBSERVERS {
-        let place = places[i];
-        ok = ok & is_good(place);
-    }
-    ok
+    places.iter().all(|place| is_good(*place))
 }
 
 // Are the places from `start` on unused? So they are where none is left.
 fn unused_from(places: [Place; MOST_OBSERVERS], start: usize) -> bool
     ensures { result ≡ every is_unused (drop start places) }
 {
-    let mut ok = true;
-    let mut i = start;
-    while i < MOST_OBSERVERS {
-        let place = places[i];
-        ok = ok & is_unused(place);
-        i += 1;
-    }
-    ok
+    places.iter().skip(start).all(|place| is_unused(*place))
 }
 
 // The observers whose acks are kept.
 pub fn kept_marks(places: [Place; MOST_OBSERVERS]) -> [bool; MOST_OBSERVERS]
     ensures { result ≡ kept_marks places }
 {
-    let mut marks = [false; MOST_OBSERVERS];
-    for i in 0..MOST_OBSERVERS {
-        let place = places[i];
-        marks[i] = place.kept;
-    }
-    marks
+    places.map(|place| place.kept)
 }
 
 // Rule 5.2, the conditions in their order.
+#[tactic(auto, unfolding(standby_rules::specs::Standby::has_form, standby_rules::specs::Standby::form))]
 pub fn has_form(s: Settings, q: Standby) -> bool
     ensures { result ≡ has_form s q }
 {
-    let places = q.places;
-    let marks = kept_marks(places);
-    (q.open_flag | ((q.ts == 0) & unused_from(places, 0)))
-        & (!q.open_flag | (q.ts <= q.last_reading))
-        & (q.last_reading <= TOP_READING)
-        & !quorums::contains_query_quorum(s, marks)
-        & all_good(places)
-        & unused_from(places, s.observers as usize)
+    let marks = kept_marks(q.places);
+    let conditions = [
+        q.open_flag | ((q.ts == 0) & unused_from(q.places, 0)),
+        !q.open_flag | (q.ts <= q.last_reading),
+        q.last_reading <= TOP_READING,
+        !quorums::contains_query_quorum(s, marks),
+        all_good(q.places),
+        unused_from(q.places, s.observers as usize),
+    ];
+    conditions.iter().all(|holds| *holds)
 }

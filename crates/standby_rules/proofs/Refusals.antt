@@ -6,7 +6,6 @@ use mathlib.Core.List.{List}
 use lib.ListN.{get_or}
 use borrow.Author.Tests.{eqb-true, eq-eqb, ltb-false, le-ltb, leb-false, lt-leb, not-false}
 use Rattle.words.specs.Tests.{◌=?◌, ◌<?◌}
-use Rattle.words.specs.Lists.{every}
 use Rattle.words.specs.Said.{first}
 use Rattle.words.proofs.Booleans.{neither_holds, whether}
 use Rattle.words.proofs.Said.{none_applies}

@@ -8,7 +8,6 @@ use lib.Seq.{get_or-set_other}
 use borrow.Author.Tests.{not-true}
 use Rattle.words.specs.Tests.{◌=?◌}
 use Rattle.words.specs.Said.{Said}
-use Rattle.words.specs.Lists.{every}
 use Rattle.words.proofs.Booleans.{not_both}
 use Rattle.words.proofs.Conditions.{every_anywhere}
 use Rattle.settings.specs.declared.Settings.{Settings}

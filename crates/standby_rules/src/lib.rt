@@ -7,20 +7,30 @@ ghost use Rattle.standby_rules.specs.Claims.{FormIsKept, ClosedIsZero, VerdictsH
 use messages::Status;
 use settings::MOST_OBSERVERS;
 
-// What is kept of one observer's ack; an unused place is not kept, with counter 0 and Alive.
-#[derive(Clone, Copy)]
+// What is kept of one observer's ack.
+// Kept: flag and values, no Option: rule 5.2 refuses (3) an unused place that is not all 0 (`has_form`), and cases hand such in.
+#[derive(Clone, Copy, PartialEq, Eq)]
 pub struct Place {
     pub kept: bool,
     pub counter: u64,
     pub status: Status,
 }
 
+// Nothing is kept, all 0.
+pub const UNUSED: Place = Place {
+    kept: false,
+    counter: 0,
+    status: Status::Alive,
+};
+
+// Kept: flag and values, no Option: rule 5.2 refuses (3) a closed round that is not all 0 (`has_form`), and cases hand such in.
 #[derive(Clone, Copy)]
 pub struct Standby {
     pub open_flag: bool,
     pub ts: u64,
     pub last_reading: u64,
     // one place an observer, by number
+    // Kept: as many places as there can be observers, those past n unused: fixed memory.
     pub places: [Place; MOST_OBSERVERS],
 }
 

@@ -1,17 +1,21 @@
 -- A row stays within its line.
-use Prim.Native.Nat.{ℕ, ◌≤◌, ◌<◌}
+use Rattle.std.specs.Prelude.{Result, Ok, Err, is_some, unwrap_or, Some, None, if◌then◌else◌}
+use Rattle.std.specs.Result.{result_ok}
+use Prim.Native.Nat.{ℕ, zero, suc, ◌+◌, ◌≤◌, ◌<◌}
 use native.Mathlib.Omega.{arith}
-use mathlib.Core.Path.{◌≡◌, ap, ◌∙◌}
-use mathlib.Core.Bool.{true}
+use mathlib.Core.Path.{◌≡◌, refl, sym, ap, ◌∙◌}
+use mathlib.Core.Bool.{Bool, true, false, true≢false}
 use mathlib.Core.List.{List}
 use lib.ListN.{length, drop, length-append, length-drop}
+use lib.Seq.{drop-drop}
+use borrow.Author.Tests.{eqb-true, eqb-false}
 use Rattle.words.specs.Lists.{text}
-use Rattle.decimals.specs.declared.Number.TheVariants.{Value}
-use Rattle.decimals.specs.Decimals.{digits, number_at}
-use Rattle.fields.specs.Places.{begins}
+use Rattle.words.specs.Tests.{◌=?◌}
+use Rattle.decimals.specs.Decimals.{digits, number, number_at}
+use Rattle.fields.specs.Places.{begins, behind}
 use Rattle.fields.proofs.Rooms.{front}
 use Rattle.decimals.proofs.Reading.{read_digits}
-use Rattle.step_lines.specs.Rows.{greatest_number}
+use Rattle.step_lines.specs.Rows.{greatest_number, row_begun}
 
 -- a tab that stands at p is within the line
 pub tab_within : (s : List ℕ) (p : ℕ) → begins (text "\t") (drop p s) ≡ true → p < length s
@@ -21,8 +25,39 @@ tab_within s p e =
     omega (arith, l, d)
 
 -- a number has no more digits than the part that it was read from has bytes
-pub number_within : (s : List ℕ) (value count : ℕ) → number_at true greatest_number s ≡ Value value count → count ≤ length s
+pub number_within : (s : List ℕ) (value count : ℕ) → number_at true greatest_number s ≡ number value count → count ≤ length s
 number_within s value count e =
     let i = read_digits true greatest_number s value count (omega arith) e in
     let l = ap length i.front ∙ length-append (digits value) (drop count s) in
     omega (arith, l, i.count)
+
+-- what stands behind a word is there only with the word
+pub behind_some : (word s rest : List ℕ) → Some rest ≡ behind word s → (begins word s ≡ true) × (rest ≡ drop (length word) s)
+unfolding behind
+behind_some word s rest = by (begins word s)
+  where
+    by : (t : Bool) → Some rest ≡ (if t then Some (drop (length word) s) else None) → (t ≡ true) × (rest ≡ drop (length word) s)
+    by true e = (refl, ap (λ o. unwrap_or o rest) e)
+    by false e = absurd (true≢false (ap is_some e))
+
+-- past the test a tab stands at p, and the part begins behind the tab
+pub tabbed : (s : List ℕ) (p : ℕ) (rest part : List ℕ) → Some part ≡ behind (text "\t") rest → rest ≡ drop p s
+    → (begins (text "\t") (drop p s) ≡ true) × (part ≡ drop (p + 1) s)
+tabbed s p rest part e f =
+    let b = behind_some (text "\t") (drop p s) part (e ∙ ap (behind (text "\t")) f) in
+    (b.0, b.1 ∙ drop-drop 1 p s)
+
+-- a number that was read
+pub was_read : {A E : Type 0} (read : Result A E) (a : A) → Some a ≡ result_ok read → read ≡ Ok a
+was_read (Ok b) a e = sym (ap (λ o. Ok (unwrap_or o a)) e)
+was_read (Err missing) a e = absurd (true≢false (ap is_some e))
+
+-- where a number is missing, so is the row
+pub none_stays : (all : ℕ) (s : List ℕ) (k count : ℕ) → k ≤ count → row_begun all s k ≡ None → row_begun all s count ≡ None
+unfolding row_begun
+none_stays all s k zero h e = let z : k ≡ 0 = omega arith in rw z at e
+none_stays all s k (suc count) h e = by (k =? suc count) refl (none_stays all s k count)
+  where
+    by : (t : Bool) → (k =? suc count) ≡ t → (k ≤ count → row_begun all s k ≡ None → row_begun all s count ≡ None) → row_begun all s (suc count) ≡ None
+    by true f earlier = rw (eqb-true k (suc count) f) at e
+    by false f earlier = let apart = eqb-false k (suc count) f in rw (earlier (omega arith) e) refl

@@ -1,8 +1,8 @@
 -- Numbers in a row, each behind one tab (rule 7.4).
-use Rattle.std.specs.Prelude.{ℕ, zero, suc, ◌+◌, true, false, ◌&&◌, List, drop, set, replicate, if◌then◌else◌}
+use Rattle.std.specs.Prelude.{ℕ, zero, suc, ◌+◌, true, List, drop, set, replicate, if◌then◌else◌, Option, Some, None, option_and_then, Result, Ok, Err}
 use Rattle.words.specs.Lists.{text}
 use Rattle.decimals.specs.declared.Number.{Number}
-use Rattle.decimals.specs.declared.Number.TheVariants.{Value, Bad}
+use Rattle.decimals.specs.declared.NoNumber.{NoNumber}
 use Rattle.decimals.specs.Decimals.{number_at}
 use Rattle.fields.specs.Places.{begins}
 use Rattle.step_lines.specs.declared.Row.{Row}
@@ -12,18 +12,22 @@ abbrev pub greatest_number : ℕ
 greatest_number = 18446744073709551615
 
 -- the row with that number as its k-th, which begins at `from`
-unfoldable pub with_number : (from k : ℕ) → Row → Number → Row
-with_number from k r (Value value count) = record { good = true; behind = from + count; numbers = set r.numbers k value }
-with_number from k r (Bad place) = record { good = false; behind = r.behind; numbers = r.numbers }
+unfoldable pub with_number : {n : ℕ} → (from k : ℕ) → Row n → Result Number NoNumber → Option (Row n)
+with_number from k r (Ok number) = Some (record { behind = from + number.length; numbers = set r.numbers k number.value })
+with_number from k r (Err missing) = None
 
 -- the k-th number, behind its tab
-unfoldable pub extended : List ℕ → Row → (k : ℕ) → Row
+unfoldable pub extended : {n : ℕ} → List ℕ → Row n → (k : ℕ) → Option (Row n)
 extended s r k =
-    if r.good && begins (text "\t") (drop r.behind s)
+    if begins (text "\t") (drop r.behind s)
     then with_number (r.behind + 1) k r (number_at true greatest_number (drop (r.behind + 1) s))
-    else record { good = false; behind = r.behind; numbers = r.numbers }
+    else None
+
+-- the first `count` of the `all` numbers at the front
+unfoldable pub row_begun : (all : ℕ) → List ℕ → (count : ℕ) → Option (Row all)
+row_begun all s zero = Some (record { behind = 0; numbers = replicate all 0 })
+row_begun all s (suc count) = option_and_then (λ r. extended s r count) (row_begun all s count)
 
 -- `count` numbers at the front
-unfoldable pub row : List ℕ → (count : ℕ) → Row
-row s zero = record { good = true; behind = 0; numbers = replicate 7 0 }
-row s (suc count) = extended s (row s count) count
+unfoldable pub row : List ℕ → (count : ℕ) → Option (Row count)
+row s count = row_begun count s count

@@ -1,14 +1,14 @@
 // The lines of a step file, read into what they ask for. Serves rules 7.2 to 7.4.
 // Each field is read from the part of the line that begins where the field begins. Numbers go to 2^64 - 1: the steps test
-// the ranges.
+// the ranges. What is no line of the forms reads as `None`.
 #![tactic(auto)]
 
 ghost use Rattle.std.specs.Prelude.{◌≡◌, ◌<◌, ◌≤◌};
 ghost use Rattle.step_lines.specs.Rows.{extended, row};
-ghost use Rattle.step_lines.specs.Reading.{closed_by, settings_numbers, settings_line, grant_numbers, recorder_event, recorder_numbers, cut_numbers, request_end, request_numbers, check_numbers, observer_event, observer_numbers, ack_numbers, standby_event, standby_numbers, step_line};
+ghost use Rattle.step_lines.specs.Reading.{last_numbers, settings_numbers, settings_line, grant_numbers, recorder_event, recorder_numbers, cut_numbers, request_end, request_numbers, check_numbers, observer_event, observer_numbers, ack_numbers, standby_event, standby_numbers, step_line};
 
-use decimals::{Number, read_number};
-use fields::{is_exactly, part_from, starts};
+use decimals::read_number;
+use fields::{after, is_exactly, part_from};
 use messages::Status;
 use observer_rules::ObserverEvent;
 use recorder_rules::RecorderEvent;
@@ -21,258 +21,209 @@ pub enum StepLine {
     Recorder(u64, RecorderEvent),
     Observer(u64, u64, ObserverEvent),
     Standby(u64, StandbyEvent),
-    Bad,
 }
 
-// What a first line gives: the settings, or nothing.
+// Numbers in a row, each behind one tab: the place behind them, and the numbers.
 #[derive(Clone, Copy)]
-pub enum SettingsLine {
-    Given(Settings),
-    Bad,
-}
-
-// Numbers in a row, each behind one tab: whether all stand there, the place behind them, and the numbers.
-#[derive(Clone, Copy)]
-pub struct Row {
-    pub good: bool,
+pub struct Row<const N: usize> {
     pub behind: usize,
-    pub numbers: [u64; 7],
+    pub numbers: [u64; N],
 }
 
 // The row with its k-th number.
-fn extend(s: &[u8], row: Row, k: usize) -> Row
-    requires { k < 7 }
-    ensures { result ≡ extended s.now row k }
+#[tactic(auto, unfolding(crate::specs::Rows::extended, crate::specs::Rows::with_number, fields::specs::Places::behind))]
+fn extend<const N: usize>(s: &[u8], row: Row<N>, k: usize) -> Option<Row<N>>
+    requires { k < N }
+    ensures { result ≡ extended s.now row.entry k }
 {
-    let mut next = row;
-    next.good = false;
-    if row.good & starts(part_from(s, row.behind), b"\t") {
-        let from = row.behind + 1;
-        let number = read_number(part_from(s, from), true, 18446744073709551615);
-        match number {
-            Number::Value(value, count) => {
-                next.good = true;
-                next.behind = from + count;
-                next.numbers[k] = value;
-                next
-            }
-            Number::Bad(_) => next,
-        }
-    } else {
-        next
-    }
+    let part = after(part_from(s, row.behind), b"\t")?;
+    let number = read_number(part, true, u64::MAX).ok()?;
+    let mut numbers = row.numbers;
+    numbers[k] = number.value;
+    Some(Row {
+        behind: row.behind + 1 + number.length,
+        numbers,
+    })
 }
 
-// The numbers at the front, `count` of them.
-fn row_of(s: &[u8], count: usize) -> Row
-    requires { count ≤ 7 }
-    ensures { result ≡ row s.now count }
+// The numbers at the front, `N` of them.
+fn row_of<const N: usize>(s: &[u8]) -> Option<Row<N>>
+    ensures { result ≡ row s.now N }
 {
     let mut found = Row {
-        good: true,
         behind: 0,
-        numbers: [0; 7],
+        numbers: [0; N],
     };
-    let mut k: usize = 0;
-    while k < count {
-        found = extend(s, found, k);
-        k += 1;
+    for k in 0..N {
+        found = extend(s, found, k)?;
     }
-    found
+    Some(found)
 }
 
-// Does the row stand there, and behind it the end?
-fn is_closed_by(end: &[u8], s: &[u8], row: Row) -> bool
-    ensures { result ≡ closed_by end.now s.now row }
+// The numbers of a row that the line feed ends.
+#[tactic(auto, unfolding(crate::specs::Reading::closed_by, crate::specs::Reading::last_numbers))]
+fn last_numbers<const N: usize>(s: &[u8]) -> Option<[u64; N]>
+    requires { N ≤ 7 }
+    ensures { result ≡ last_numbers s.now (row s.now N) }
 {
-    row.good & is_exactly(part_from(s, row.behind), end)
+    let row = row_of(s)?;
+    if is_exactly(part_from(s, row.behind), b"\n") {
+        Some(row.numbers)
+    } else {
+        None
+    }
 }
 
-fn settings_numbers(s: &[u8]) -> SettingsLine
+#[tactic(auto, unfolding(crate::specs::Reading::last_numbers, crate::specs::Reading::settings_numbers))]
+fn settings_numbers(s: &[u8]) -> Option<Settings>
     ensures { result ≡ settings_numbers s.now (row s.now 7) }
 {
-    let row = row_of(s, 7);
-    if is_closed_by(b"\n", s, row) {
-        let numbers = row.numbers;
-        SettingsLine::Given(settings_of(numbers))
-    } else {
-        SettingsLine::Bad
-    }
+    Some(settings_of(last_numbers::<7>(s)?))
 }
 
 // The settings that a first line gives.
-pub fn read_settings_line(s: &[u8]) -> SettingsLine
+#[tactic(auto, unfolding(crate::specs::Reading::settings_line, fields::specs::Places::behind))]
+pub fn read_settings_line(s: &[u8]) -> Option<Settings>
     ensures { result ≡ settings_line s.now }
 {
-    if starts(s, b"SETTINGS") {
-        settings_numbers(part_from(s, 8))
-    } else {
-        SettingsLine::Bad
-    }
+    settings_numbers(after(s, b"SETTINGS")?)
 }
 
-fn grant_numbers(reading: u64, s: &[u8]) -> StepLine
-    ensures { result ≡ grant_numbers reading s.now (row s.now 2) }
+#[tactic(auto, unfolding(crate::specs::Reading::last_numbers, crate::specs::Reading::grant_numbers))]
+fn grant_numbers(s: &[u8]) -> Option<RecorderEvent>
+    ensures { result ≡ grant_numbers s.now (row s.now 2) }
 {
-    let row = row_of(s, 2);
-    if is_closed_by(b"\n", s, row) {
-        StepLine::Recorder(
-            reading,
-            RecorderEvent::Grant(row.numbers[0], row.numbers[1]),
-        )
-    } else {
-        StepLine::Bad
-    }
+    let [observer, number] = last_numbers::<2>(s)?;
+    Some(RecorderEvent::Grant(observer, number))
 }
 
-fn recorder_event(reading: u64, s: &[u8]) -> StepLine
-    ensures { result ≡ recorder_event reading s.now }
+#[tactic(auto, unfolding(crate::specs::Reading::recorder_event, fields::specs::Places::behind))]
+fn recorder_event(s: &[u8]) -> Option<RecorderEvent>
+    ensures { result ≡ recorder_event s.now }
 {
     if is_exactly(s, b"\ttick\n") {
-        return StepLine::Recorder(reading, RecorderEvent::Tick);
+        return Some(RecorderEvent::Tick);
     }
     if is_exactly(s, b"\tdrive\n") {
-        return StepLine::Recorder(reading, RecorderEvent::Drive);
+        return Some(RecorderEvent::Drive);
     }
-    if starts(s, b"\tgrant") {
-        return grant_numbers(reading, part_from(s, 6));
-    }
-    StepLine::Bad
+    grant_numbers(after(s, b"\tgrant")?)
 }
 
-fn recorder_numbers(s: &[u8]) -> StepLine
+#[tactic(auto, unfolding(crate::specs::Reading::recorder_numbers))]
+fn recorder_numbers(s: &[u8]) -> Option<StepLine>
     ensures { result ≡ recorder_numbers s.now (row s.now 1) }
 {
-    let row = row_of(s, 1);
-    if row.good {
-        recorder_event(row.numbers[0], part_from(s, row.behind))
-    } else {
-        StepLine::Bad
-    }
+    let row = row_of::<1>(s)?;
+    let [reading] = row.numbers;
+    let event = recorder_event(part_from(s, row.behind))?;
+    Some(StepLine::Recorder(reading, event))
 }
 
-fn cut_numbers(x: u64, reading: u64, counter: u64, s: &[u8]) -> StepLine
-    ensures { result ≡ cut_numbers x reading counter s.now (row s.now 1) }
+#[tactic(auto, unfolding(crate::specs::Reading::last_numbers, crate::specs::Reading::cut_numbers))]
+fn cut_numbers(counter: u64, s: &[u8]) -> Option<ObserverEvent>
+    ensures { result ≡ cut_numbers counter s.now (row s.now 1) }
 {
-    let row = row_of(s, 1);
-    if is_closed_by(b"\n", s, row) {
-        StepLine::Observer(x, reading, ObserverEvent::Cut(counter, row.numbers[0]))
-    } else {
-        StepLine::Bad
-    }
+    let [cut] = last_numbers::<1>(s)?;
+    Some(ObserverEvent::Cut(counter, cut))
 }
 
-fn request_end(x: u64, reading: u64, counter: u64, s: &[u8]) -> StepLine
-    ensures { result ≡ request_end x reading counter s.now }
+#[tactic(auto, unfolding(crate::specs::Reading::request_end, fields::specs::Places::behind))]
+fn request_end(counter: u64, s: &[u8]) -> Option<ObserverEvent>
+    ensures { result ≡ request_end counter s.now }
 {
     if is_exactly(s, b"\n") {
-        return StepLine::Observer(x, reading, ObserverEvent::Request(counter));
+        return Some(ObserverEvent::Request(counter));
     }
-    if starts(s, b"\tcut") {
-        return cut_numbers(x, reading, counter, part_from(s, 4));
-    }
-    StepLine::Bad
+    cut_numbers(counter, after(s, b"\tcut")?)
 }
 
-fn request_numbers(x: u64, reading: u64, s: &[u8]) -> StepLine
-    ensures { result ≡ request_numbers x reading s.now (row s.now 1) }
+#[tactic(auto, unfolding(crate::specs::Reading::request_numbers))]
+fn request_numbers(s: &[u8]) -> Option<ObserverEvent>
+    ensures { result ≡ request_numbers s.now (row s.now 1) }
 {
-    let row = row_of(s, 1);
-    if row.good {
-        request_end(x, reading, row.numbers[0], part_from(s, row.behind))
-    } else {
-        StepLine::Bad
-    }
+    let row = row_of::<1>(s)?;
+    let [counter] = row.numbers;
+    request_end(counter, part_from(s, row.behind))
 }
 
-fn check_numbers(x: u64, reading: u64, s: &[u8]) -> StepLine
-    ensures { result ≡ check_numbers x reading s.now (row s.now 1) }
+#[tactic(auto, unfolding(crate::specs::Reading::last_numbers, crate::specs::Reading::check_numbers))]
+fn check_numbers(s: &[u8]) -> Option<ObserverEvent>
+    ensures { result ≡ check_numbers s.now (row s.now 1) }
 {
-    let row = row_of(s, 1);
-    if is_closed_by(b"\n", s, row) {
-        StepLine::Observer(x, reading, ObserverEvent::Check(row.numbers[0]))
-    } else {
-        StepLine::Bad
-    }
+    let [ts] = last_numbers::<1>(s)?;
+    Some(ObserverEvent::Check(ts))
 }
 
-fn observer_event(x: u64, reading: u64, s: &[u8]) -> StepLine
-    ensures { result ≡ observer_event x reading s.now }
+#[tactic(auto, unfolding(crate::specs::Reading::observer_event, fields::specs::Places::behind))]
+fn observer_event(s: &[u8]) -> Option<ObserverEvent>
+    ensures { result ≡ observer_event s.now }
 {
-    if starts(s, b"\trequest") {
-        return request_numbers(x, reading, part_from(s, 8));
+    if let Some(request) = after(s, b"\trequest") {
+        return request_numbers(request);
     }
-    if starts(s, b"\tcheck") {
-        return check_numbers(x, reading, part_from(s, 6));
-    }
-    StepLine::Bad
+    check_numbers(after(s, b"\tcheck")?)
 }
 
-fn observer_numbers(s: &[u8]) -> StepLine
+#[tactic(auto, unfolding(crate::specs::Reading::observer_numbers))]
+fn observer_numbers(s: &[u8]) -> Option<StepLine>
     ensures { result ≡ observer_numbers s.now (row s.now 2) }
 {
-    let row = row_of(s, 2);
-    if row.good {
-        observer_event(row.numbers[0], row.numbers[1], part_from(s, row.behind))
-    } else {
-        StepLine::Bad
-    }
+    let row = row_of::<2>(s)?;
+    let [x, reading] = row.numbers;
+    let event = observer_event(part_from(s, row.behind))?;
+    Some(StepLine::Observer(x, reading, event))
 }
 
-fn ack_numbers(reading: u64, s: &[u8]) -> StepLine
-    ensures { result ≡ ack_numbers reading s.now (row s.now 3) }
+#[tactic(auto, unfolding(crate::specs::Reading::closed_by, crate::specs::Reading::ack_numbers))]
+fn ack_numbers(s: &[u8]) -> Option<StandbyEvent>
+    ensures { result ≡ ack_numbers s.now (row s.now 3) }
 {
-    let row = row_of(s, 3);
-    let x = row.numbers[0];
-    let ts = row.numbers[1];
-    let counter = row.numbers[2];
-    if is_closed_by(b"\tAlive\n", s, row) {
-        return StepLine::Standby(reading, StandbyEvent::Ack(x, ts, counter, Status::Alive));
+    let row = row_of::<3>(s)?;
+    let [x, ts, counter] = row.numbers;
+    let rest = part_from(s, row.behind);
+    if is_exactly(rest, b"\tAlive\n") {
+        return Some(StandbyEvent::Ack(x, ts, counter, Status::Alive));
     }
-    if is_closed_by(b"\tDead\n", s, row) {
-        return StepLine::Standby(reading, StandbyEvent::Ack(x, ts, counter, Status::Dead));
+    if is_exactly(rest, b"\tDead\n") {
+        return Some(StandbyEvent::Ack(x, ts, counter, Status::Dead));
     }
-    StepLine::Bad
+    None
 }
 
-fn standby_event(reading: u64, s: &[u8]) -> StepLine
-    ensures { result ≡ standby_event reading s.now }
+#[tactic(auto, unfolding(crate::specs::Reading::standby_event, fields::specs::Places::behind))]
+fn standby_event(s: &[u8]) -> Option<StandbyEvent>
+    ensures { result ≡ standby_event s.now }
 {
     if is_exactly(s, b"\tbegin\n") {
-        return StepLine::Standby(reading, StandbyEvent::Begin);
+        return Some(StandbyEvent::Begin);
     }
     if is_exactly(s, b"\tpoll\n") {
-        return StepLine::Standby(reading, StandbyEvent::Poll);
+        return Some(StandbyEvent::Poll);
     }
-    if starts(s, b"\tack") {
-        return ack_numbers(reading, part_from(s, 4));
-    }
-    StepLine::Bad
+    ack_numbers(after(s, b"\tack")?)
 }
 
-fn standby_numbers(s: &[u8]) -> StepLine
+#[tactic(auto, unfolding(crate::specs::Reading::standby_numbers))]
+fn standby_numbers(s: &[u8]) -> Option<StepLine>
     ensures { result ≡ standby_numbers s.now (row s.now 1) }
 {
-    let row = row_of(s, 1);
-    if row.good {
-        standby_event(row.numbers[0], part_from(s, row.behind))
-    } else {
-        StepLine::Bad
-    }
+    let row = row_of::<1>(s)?;
+    let [reading] = row.numbers;
+    let event = standby_event(part_from(s, row.behind))?;
+    Some(StepLine::Standby(reading, event))
 }
 
 // What a step line asks for.
-pub fn read_step_line(s: &[u8]) -> StepLine
+#[tactic(auto, unfolding(crate::specs::Reading::step_line, fields::specs::Places::behind))]
+pub fn read_step_line(s: &[u8]) -> Option<StepLine>
     ensures { result ≡ step_line s.now }
 {
-    if starts(s, b"R") {
-        return recorder_numbers(part_from(s, 1));
+    if let Some(rest) = after(s, b"R") {
+        return recorder_numbers(rest);
     }
-    if starts(s, b"O") {
-        return observer_numbers(part_from(s, 1));
+    if let Some(rest) = after(s, b"O") {
+        return observer_numbers(rest);
     }
-    if starts(s, b"Q") {
-        return standby_numbers(part_from(s, 1));
-    }
-    StepLine::Bad
+    standby_numbers(after(s, b"Q")?)
 }

@@ -1,9 +1,7 @@
 -- How much was read.
-use Rattle.std.specs.Prelude.{ℕ}
-use Rattle.streams.specs.declared.Input.{Input}
-use Rattle.streams.specs.declared.Input.TheVariants.{Read, Failed}
+use Rattle.std.specs.Prelude.{ℕ, Result, Ok, Err}
 
 -- so many bytes; of an input that could not be read, none
-abbrev pub bytes_read : Input → ℕ
-bytes_read (Read count) = count
-bytes_read Failed = 0
+abbrev pub bytes_read : {E : Type 0} → Result ℕ E → ℕ
+bytes_read (Ok count) = count
+bytes_read (Err e) = 0

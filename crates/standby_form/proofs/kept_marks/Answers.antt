@@ -1,20 +1,19 @@
--- `standby_form::kept_marks` meets its contract. The loop's invariant: the marks of the places passed stand in the array.
+-- `standby_form::kept_marks` meets its contract: what `map` returned is the list of the marks, place by place.
 use native.Mathlib.Omega.{arith}
-use mathlib.Core.Path.{◌∙◌}
-use lib.ListN.{length-set}
-use Rattle.words.proofs.Walks.{map_more, map_done}
+use Rattle.std.proofs.Common.{rules, ◌≡◌, length}
+use mathlib.Core.Bool.{false}
+use lib.ListN.{get_or-map, length-map}
+use Rattle.std.proofs.lemmas.List.{ext_get_or}
 use Rattle.standby_rules.specs.declared.Place.{Place}
-use Rattle.standby_rules.specs.Standby.{unused}
+use Rattle.standby_rules.specs.Standby.{unused, kept_marks}
 use Rattle.standby_form.proofs.kept_marks.Goals as goal
-
-pub loop-i-preserved : goal.loop-i-preserved
-loop-i-preserved c = (
-  length-set c.loop-i.marks _ _ ∙ c.loop-i.invariant.0,
-  map_more (λ (place : Place). place.kept) c.args.places c.loop-i.i unused c.loop-i.marks (omega arith)
-      (omega arith) c.loop-i.invariant.1,
-)
 
 pub returns : goal.returns
 returns c =
-    map_done (λ (place : Place). place.kept) c.args.places c.loop-i.i c.loop-i.marks (omega arith) (omega arith)
-    c.loop-i.invariant.1
+    let places = c.args.places in
+    let sixteen : length places ≡ 16 = search rules in
+    let as_many : length c.map.result ≡ 16 = c.map.ensures.items.long in
+    ext_get_or false c.map.result (kept_marks places) (simp length-map (omega arith))
+    (λ i h.
+    let called = (c.map.ensures.items.at i unused false (omega arith)).2 in
+    rw (get_or-map (λ (place : Place). place.kept) places i unused) (search rules))

@@ -25,6 +25,6 @@ loop-done-preserved g c =
     let done = c.loop-done.done in
     let old = c.loop-done.room in
     let within = c.loop-done.invariant.1 in
-    let given = slice_range_put_mid done (length old - done) c.in-Ok.more old c.read.new.buf within c.in-Ok.ensures.bound.0 in
-    let joined = take_split done (done + c.in-Ok.more) old (put_mid done (length old - done) old c.read.new.buf) (omega arith) (take-put_mid_below _ _ _ _ _ (le_refl _) within) in
-    (search rules, search rules, subst (Consumes _ _) (ap (λ l. take done old ++ l) (sym given) ∙ joined) (Consumes-trans _ _ _ _ _ c.loop-done.invariant.2 c.in-Ok.ensures.bytes.0))
+    let given = slice_range_put_mid done (length old - done) c.in_ok-more.more old c.read.new.buf within c.in_ok-more.ensures.bound.0 in
+    let joined = take_split done (done + c.in_ok-more.more) old (put_mid done (length old - done) old c.read.new.buf) (omega arith) (take-put_mid_below _ _ _ _ _ (le_refl _) within) in
+    (search rules, search rules, subst (Consumes _ _) (ap (λ l. take done old ++ l) (sym given) ∙ joined) (Consumes-trans _ _ _ _ _ c.loop-done.invariant.2 c.in_ok-more.ensures.bytes.0))

@@ -1,0 +1,72 @@
+-- One table of refusals behind another, as code knows it that asks for the first by a call and `?`: a refusal of the first is
+-- that of both, and where the first accepts the second decides.
+use Rattle.std.specs.Prelude.{if◌then◌else◌}
+use Prim.Native.Nat.{ℕ}
+use native.Mathlib.Omega.{arith}
+use mathlib.Core.Path.{◌≡◌, refl, sym}
+use mathlib.Core.Bool.{Bool, true, not, ◌||◌}
+use mathlib.Core.List.{List, [], ◌∷◌, ◌++◌}
+use Rattle.words.specs.Tests.{◌<?◌, ◌≤?◌, ◌=?◌}
+use Rattle.words.specs.Lists.{every}
+use Rattle.words.specs.Said.{Refusal as Line, first, ◌when◌}
+use Rattle.words.proofs.Said.{first_stays, first_goes_on}
+use Rattle.refusals.specs.declared.Refusal.{Refusal}
+use Rattle.refusals.specs.declared.Refusal.TheVariants.{OutOfRange, NegativeSlack, NoForm, BadReading, NoSuchObserver, BadCounter, NoRound, OtherRound, BadLine, WrongRoom}
+use Rattle.refusals.specs.Refusals.{number_of}
+use Rattle.settings.specs.declared.Settings.{Settings}
+use Rattle.settings.specs.Settings.{n, refusals, refusal_of}
+use Rattle.messages.specs.Messages.{top_counter}
+use Rattle.messages.specs.Outcomes.{bad_reading}
+use Rattle.observer_rules.specs.declared.Observer.{Observer}
+use Rattle.observer_rules.specs.Observer.{has_form, last_reading_of, shared_refusals, request_refusals, cut_refusals}
+
+-- 0 is no refusal's number
+pub some_number : (r : Refusal) → number_of r ≡ 0 → ⊥
+some_number OutOfRange e = omega arith
+some_number NegativeSlack e = omega arith
+some_number NoForm e = omega arith
+some_number BadReading e = omega arith
+some_number NoSuchObserver e = omega arith
+some_number BadCounter e = omega arith
+some_number NoRound e = omega arith
+some_number OtherRound e = omega arith
+some_number BadLine e = omega arith
+some_number WrongRoom e = omega arith
+
+module _ (rs later : List Line) (numbered : every (λ r. 0 <? r.no) rs ≡ true) where
+  pub refused_before : (r : Refusal) → number_of r ≡ first rs → number_of r ≡ first (rs ++ later)
+  refused_before r told = first_stays rs later numbered told (some_number r)
+
+  pub accepted_before : 0 ≡ first rs → first later ≡ first (rs ++ later)
+  accepted_before told = sym (first_goes_on rs later numbered told refl)
+
+-- of a cut: what refuses its request refuses it, and 9 decides behind it
+module _ (s : Settings) (o : Observer) (x r c k : ℕ) where
+  pub cut_refused : (e : Refusal) → number_of e ≡ first (request_refusals s o x r c) → number_of e ≡ first (cut_refusals s o x r c k)
+  cut_refused = refused_before (request_refusals s o x r c) (9 when (2 <? k) ∷ []) refl
+
+  pub cut_decides : 0 ≡ first (request_refusals s o x r c) → (if 2 <? k then 9 else 0) ≡ first (cut_refusals s o x r c k)
+  unfolding first
+  cut_decides = accepted_before (request_refusals s o x r c) (9 when (2 <? k) ∷ []) refl
+
+-- of a request: what all steps share, with 4 by its reading, and behind it 6
+module _ (s : Settings) (o : Observer) (x r c : ℕ) where
+  pub request_refused : (e : Refusal) → number_of e ≡ first (shared_refusals s o x (bad_reading (last_reading_of o) r))
+      → number_of e ≡ first (request_refusals s o x r c)
+  request_refused = refused_before (shared_refusals s o x (bad_reading (last_reading_of o) r)) (6 when ((c =? 0) || (top_counter <? c)) ∷ []) refl
+
+  pub request_decides : 0 ≡ first (shared_refusals s o x (bad_reading (last_reading_of o) r))
+      → (if (c =? 0) || (top_counter <? c) then 6 else 0) ≡ first (request_refusals s o x r c)
+  unfolding first
+  request_decides = accepted_before (shared_refusals s o x (bad_reading (last_reading_of o) r)) (6 when ((c =? 0) || (top_counter <? c)) ∷ []) refl
+
+-- of every step: the settings' own, and behind them 3, 4 and 5
+module _ (s : Settings) (o : Observer) (x : ℕ) (bad : Bool) where
+  pub shared_refused : (e : Refusal) → number_of e ≡ refusal_of s → number_of e ≡ first (shared_refusals s o x bad)
+  unfolding refusal_of
+  shared_refused = refused_before (refusals s) (3 when not (has_form s o) ∷ 4 when bad ∷ 5 when (n s ≤? x) ∷ []) refl
+
+  pub shared_decide : 0 ≡ refusal_of s
+      → (if not (has_form s o) then 3 else (if bad then 4 else (if n s ≤? x then 5 else 0))) ≡ first (shared_refusals s o x bad)
+  unfolding refusal_of first
+  shared_decide = accepted_before (refusals s) (3 when not (has_form s o) ∷ 4 when bad ∷ 5 when (n s ≤? x) ∷ []) refl

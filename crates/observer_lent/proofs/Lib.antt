@@ -1,2 +1,0 @@
--- What the stores into the lent record leave of it.
-mod Stored
