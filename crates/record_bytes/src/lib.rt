@@ -53,8 +53,7 @@ fn put_word(b: &mut [u8], at: usize, word: u64)
     requires { at + 8 ≤ length b.old }
     ensures { b.new ≡ put_at b.old at (bytes_in 8 word) }
 {
-    let bytes = word.to_le_bytes();
-    b[at..at + 8].copy_from_slice(&bytes);
+    b[at..at + 8].copy_from_slice(&word.to_le_bytes());
 }
 
 // Puts words behind one another from `at` on.

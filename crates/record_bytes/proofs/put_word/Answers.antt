@@ -18,7 +18,7 @@ returns c =
     let eight : at + 8 - at ≡ 8 = omega arith in
     rw (
       eight,
-      c.copy_from_slice.ensures.after ∙ c.to_le_bytes-bytes.ensures ∙ bytes_low_first c.args.word,
+      c.copy_from_slice.ensures.after ∙ c.to_le_bytes.ensures ∙ bytes_low_first c.args.word,
       drop-drop 8 at b,
     )
     (sym (put_fits b at (bytes_in 8 c.args.word) c.requires ∙ append_assoc (take at b) (bytes_in 8 c.args.word) (drop (at + 8) b)))
