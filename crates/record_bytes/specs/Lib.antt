@@ -1,3 +1,2 @@
 -- Rule 8.1, for a buffer of any length.
 pub mod Held
-pub mod Parts

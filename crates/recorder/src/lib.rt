@@ -8,9 +8,9 @@ ghost use Rattle.settings.specs.Settings.{most_observers};
 ghost use Rattle.words.specs.Said.{first};
 ghost use Rattle.refusals.specs.Refusals.{number_in};
 ghost use Rattle.messages.specs.Answers.{given};
-ghost use Rattle.messages.specs.Outcomes.{outcome};
-ghost use Rattle.recorder_rules.specs.Recorder.{step_refusals, grant_refusals, standing, tick_event, grant_event, drive_event, refusals_of, event_of, step_of};
-ghost use Rattle.recorder.specs.Parts.{Roomy, Ready};
+ghost use Rattle.messages.specs.Outcomes.{outcome, ◌leaving◌};
+ghost use Rattle.recorder_rules.specs.Recorder.{step_refusals, standing, tick_event, grant_event, refusals_of, event_of, step_of};
+ghost use Rattle.recorder.specs.Parts.{grant_lines, Roomy, Ready};
 
 use messages::{Answer, Message, Stepped, Word, bad_reading};
 use recorder_form::has_form;
@@ -40,16 +40,9 @@ fn accept_step(s: Settings, rec: Recorder, reading: u64) -> Result<(), Refusal>
 
 // A grant's table goes on with refusals 5 and 6.
 #[tactic(auto, unfolding(words::specs::Said::first))]
-fn accept_grant(
-    s: Settings,
-    rec: Recorder,
-    reading: u64,
-    observer: u64,
-    number: u64,
-) -> Result<(), Refusal>
-    ensures { number_in result ≡ first (grant_refusals s rec reading observer number) }
+fn accept_grant(s: Settings, rec: Recorder, observer: u64, number: u64) -> Result<(), Refusal>
+    ensures { number_in result ≡ first (grant_lines s rec observer number) }
 {
-    accept_step(s, rec, reading)?;
     if s.observers <= observer {
         return Err(Refusal::NoSuchObserver);
     }
@@ -62,15 +55,16 @@ fn accept_grant(
 fn accept(s: Settings, rec: Recorder, reading: u64, event: RecorderEvent) -> Result<(), Refusal>
     ensures { number_in result ≡ first (refusals_of s rec reading event) }
 {
+    accept_step(s, rec, reading)?;
     match event {
-        RecorderEvent::Tick | RecorderEvent::Drive => accept_step(s, rec, reading),
-        RecorderEvent::Grant(observer, number) => accept_grant(s, rec, reading, observer, number),
+        RecorderEvent::Grant(observer, number) => accept_grant(s, rec, observer, number),
+        RecorderEvent::Tick | RecorderEvent::Drive => Ok(()),
     }
 }
 
 // ---- Events
 
-// The answer where no message is sent.
+// The word where no message is sent: rule 3.11.
 #[tactic(auto, unfolding(messages::specs::Answers::given, messages::specs::Answers::words_of, recorder_rules::specs::Recorder::standing, recorder_rules::specs::Recorder::registered))]
 fn word_of(s: Settings, rec: Recorder) -> Answer
     ensures { given result ≡ standing s rec }
@@ -79,6 +73,17 @@ fn word_of(s: Settings, rec: Recorder) -> Answer
         Answer::Say(Word::Running)
     } else {
         Answer::Say(Word::Unregistered)
+    }
+}
+
+// No message is sent, and the record stays as it is: all that a drive does.
+#[tactic(auto, unfolding(messages::specs::Answers::said))]
+fn stand(s: Settings, rec: Recorder) -> Stepped<Recorder>
+    ensures { outcome result ≡ (standing s rec leaving rec) }
+{
+    Stepped {
+        answer: Ok(word_of(s, rec)),
+        rec,
     }
 }
 
@@ -100,15 +105,12 @@ fn tick_event(s: Settings, rec: Recorder, reading: u64) -> Stepped<Recorder>
             rec: asked,
         }
     } else {
-        Stepped {
-            answer: Ok(word_of(s, rec)),
-            rec,
-        }
+        stand(s, rec)
     }
 }
 
 // Grant: rule 3.9.
-#[tactic(auto, unfolding(recorder_rules::specs::Recorder::grant_event, messages::specs::Answers::said))]
+#[tactic(auto, unfolding(recorder_rules::specs::Recorder::grant_event))]
 fn grant_event(s: Settings, rec: Recorder, observer: u64, number: u64) -> Stepped<Recorder>
     requires { observer < most_observers }
     ensures { outcome result ≡ grant_event s observer number rec }
@@ -116,24 +118,12 @@ fn grant_event(s: Settings, rec: Recorder, observer: u64, number: u64) -> Steppe
     let place = observer as usize;
     let mut raised = rec;
     raised.grants[place] = rec.grants[place].max(number);
-    Stepped {
-        answer: Ok(word_of(s, raised)),
-        rec: raised,
-    }
-}
-
-// drive: nothing.
-#[tactic(auto, unfolding(recorder_rules::specs::Recorder::drive_event, messages::specs::Answers::said))]
-fn drive_event(s: Settings, rec: Recorder) -> Stepped<Recorder>
-    ensures { outcome result ≡ drive_event s rec }
-{
-    Stepped {
-        answer: Ok(word_of(s, rec)),
-        rec,
-    }
+    stand(s, raised)
 }
 
 // What the event does with the record at it, once the ended leases are gone. An accepted grant has its place.
+// Kept: a match, no plainer otherwise, because each event's function takes arguments of its own.
+#[tactic(auto, unfolding(recorder_rules::specs::Recorder::drive_event))]
 fn event_of(s: Settings, rec: Recorder, reading: u64, event: RecorderEvent) -> Stepped<Recorder>
     requires { Ready s rec reading event }
     ensures { outcome result ≡ event_of s reading event rec }
@@ -141,7 +131,7 @@ fn event_of(s: Settings, rec: Recorder, reading: u64, event: RecorderEvent) -> S
     match event {
         RecorderEvent::Tick => tick_event(s, rec, reading),
         RecorderEvent::Grant(observer, number) => grant_event(s, rec, observer, number),
-        RecorderEvent::Drive => drive_event(s, rec),
+        RecorderEvent::Drive => stand(s, rec),
     }
 }
 

@@ -35,6 +35,7 @@ pub enum RecorderEvent {
 }
 
 // A run starts with every number 0.
+// Kept: written out, no plainer by a derived Default, which says of each place alone that it is 0, where this is one equation.
 pub fn fresh_recorder() -> Recorder
     ensures { result ≡ fresh }
 {

@@ -36,13 +36,13 @@ fn read_whole<R: Read>(from: &mut R, room: &mut [u8]) -> io::Result<usize>
 fn write_whole<W: Write>(to: &mut W, bytes: &[u8]) -> io::Result<()>
     ensures { OnOk result (Appends (W.contents to.old) (W.contents to.new) bytes.now) }
 {
-    let mut done: usize = 0;
-    while done < bytes.len() {
-        let more = to.write(&bytes[done..])?;
-        if more == 0 {
+    let mut rest = bytes;
+    while !rest.is_empty() {
+        let taken = to.write(rest)?;
+        if taken == 0 {
             return Err(ErrorKind::WriteZero.into());
         }
-        done += more;
+        rest = &rest[taken..];
     }
     Ok(())
 }

@@ -1,17 +1,18 @@
 -- What one write took stands behind what the earlier ones took.
-use Rattle.std.proofs.Common.{◌≡◌, ℕ, ◌+◌, ◌-◌, ◌≤◌, List, ◌++◌, rules, length, take, drop, sym, ap, ◌∙◌, subst}
-use Rattle.std.specs.Io.KnownBytes.{Appends}
+use Rattle.std.proofs.Common.{◌≡◌, ℕ, ◌-◌, ◌≤◌, List, ◌++◌, rules, arith, length, take, drop, append_assoc}
+use Rattle.std.proofs.lemmas.Grind.{common_steps}
 use Rattle.std.proofs.KnownBytes.{Appends-trans}
-use lib.Seq.{take-add, take-take}
 use Rattle.streams.proofs.write_whole.Goals as goal
 
--- the front of the rest, put behind the front
-take_more : (a n k : ℕ) (xs : List ℕ) → n ≤ k → take a xs ++ take n (take k (drop a xs)) ≡ take (a + n) xs
-take_more a n k xs h = ap (λ l. take a xs ++ l) (take-take n k (drop a xs) h) ∙ sym (take-add a n xs)
+-- the front of the rest, put behind what is passed
+pass : (passed rest all : List ℕ) (n : ℕ) → n ≤ length rest → passed ++ rest ≡ all
+    → (passed ++ take n rest) ++ take (length rest - n) (drop n rest) ≡ all
+pass passed rest all n h e = grind (arith, common_steps, append_assoc {A = ℕ})
 
-pub loop-done-preserved : goal.loop-done-preserved
-loop-done-preserved g c =
-    let done = c.loop-done.done in
-    let all = c.args.bytes.now in
-    let joined = take_more done c.in_ok-more.more (length all - done) all (search rules) in
-    (search rules, subst (Appends _ _) joined (Appends-trans _ _ _ _ _ c.loop-done.invariant.1 c.in_ok-more.ensures.bytes))
+pub loop-rest-preserved : goal.loop-rest-preserved
+loop-rest-preserved g c =
+    let rest = c.loop-rest.rest.now in
+    let taken = c.in_ok-taken.taken in
+    let before = c.loop-rest.invariant in
+    let within : taken ≤ length rest = search rules in
+    (before.0 ++ take taken rest, pass before.0 rest _ taken within before.1, Appends-trans _ _ _ _ _ before.2 c.in_ok-taken.ensures.bytes)

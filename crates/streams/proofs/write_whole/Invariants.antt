@@ -1,12 +1,11 @@
--- Each piece is counted, and what is counted are the bytes that the writer took.
-use Rattle.std.proofs.Common.{length, ◌-◌, ◌≤◌, take}
+-- What is passed of the bytes was appended.
+use Rattle.std.proofs.Common.{◌≡◌, ℕ, List, ◌++◌, length}
 use Rattle.std.specs.Io.KnownBytes.{Appends}
 use Rattle.streams.proofs.write_whole.Given as goal
 
-abbrev pub invariant-loop-done : goal.invariant-loop-done
-invariant-loop-done g l =
-    (l.done ≤ length l.bytes)
-    × Appends (g.W.Write.contents l.initial.to) (g.W.Write.contents l.to) (take l.done l.bytes)
+abbrev pub invariant-loop-rest : goal.invariant-loop-rest
+invariant-loop-rest g l =
+    (passed : List ℕ) × (passed ++ l.rest ≡ l.bytes) × Appends (g.W.Write.contents l.initial.to) (g.W.Write.contents l.to) passed
 
-abbrev pub decreases-loop-done : goal.decreases-loop-done
-decreases-loop-done g l = length l.bytes - l.done
+abbrev pub decreases-loop-rest : goal.decreases-loop-rest
+decreases-loop-rest g l = length l.rest
