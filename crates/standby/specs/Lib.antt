@@ -1,3 +1,2 @@
 -- What the standby's step returns.
-pub mod Outcome
 pub mod Parts

@@ -5,91 +5,23 @@
 ghost use Rattle.std.specs.Prelude.{◌≡◌, not, [], ◌∷◌, ◌++◌, ◌<◌};
 ghost use Rattle.words.specs.Lists.{some};
 ghost use Rattle.words.specs.Said.{first, ◌when◌};
+ghost use Rattle.refusals.specs.Refusals.{number_in};
 ghost use Rattle.settings.specs.Settings.{most_observers, window, refusals};
-ghost use Rattle.messages.specs.Answers.{said, says};
-ghost use Rattle.messages.specs.Outcomes.{◌leaving◌};
-ghost use Rattle.standby_rules.specs.Standby.{has_form, no_places, closed, at_reading, greatest, says_dead, verdict, begin_refusals, ack_refusals, poll_refusals, is_late, after_keeping, begin_event, ack_event, poll_event, refusals_of, event_within, step_of};
-ghost use Rattle.standby.specs.Outcome.{outcome};
-ghost use Rattle.standby.specs.Parts.{Ready};
+ghost use Rattle.messages.specs.Answers.{speaks, words_of, says};
+ghost use Rattle.messages.specs.Outcomes.{◌leaving◌, outcome};
+ghost use Rattle.standby_rules.specs.Standby.{has_form, no_places, closed, at_reading, says_dead, verdict, begin_refusals, ack_refusals, poll_refusals, is_late, after_keeping, begin_event, ack_event, poll_event, refusals_of, event_within, step_of};
+ghost use Rattle.standby.specs.Parts.{Ready, greatest_by_chain};
 
-use messages::{Answer, Message, Status, TOP_COUNTER, TOP_READING, Word, bad_reading};
+use messages::{Answer, Message, Status, Stepped, TOP_COUNTER, TOP_READING, Word, bad_reading};
+use refusals::Refusal;
 use settings::{MOST_OBSERVERS, Settings};
-use standby_form::{has_form, is_dead, kept_marks};
-use standby_rules::{Place, Standby, StandbyEvent};
-
-// What a step answers, and the record it leaves.
-#[derive(Clone, Copy)]
-pub struct Stepped {
-    pub answer: Answer,
-    pub rec: Standby,
-}
-
-// Refusals 1 to 3, which every step tests first.
-fn unfit(s: Settings, q: Standby) -> u32
-    ensures { result ≡ first (refusals s ++ (3 when not (has_form s q) ∷ [])) }
-{
-    let number = settings::refusal(s);
-    if number != 0 {
-        return number;
-    }
-    if has_form(s, q) { 0 } else { 3 }
-}
-
-fn begin_refusal(s: Settings, q: Standby, reading: u64) -> u32
-    ensures { result ≡ first (begin_refusals s q reading) }
-{
-    let number = unfit(s, q);
-    if number != 0 {
-        return number;
-    }
-    if bad_reading(q.last_reading, reading) {
-        4
-    } else {
-        0
-    }
-}
-
-fn ack_refusal(s: Settings, q: Standby, reading: u64, observer: u64, ts: u64, counter: u64) -> u32
-    ensures { result ≡ first (ack_refusals s q reading observer ts counter) }
-{
-    let number = unfit(s, q);
-    if number != 0 {
-        return number;
-    }
-    if bad_reading(q.last_reading, reading) | (TOP_READING < ts) {
-        return 4;
-    }
-    if s.observers <= observer {
-        return 5;
-    }
-    if TOP_COUNTER < counter {
-        return 6;
-    }
-    if !q.open_flag {
-        return 7;
-    }
-    if ts == q.ts { 0 } else { 8 }
-}
-
-fn poll_refusal(s: Settings, q: Standby, reading: u64) -> u32
-    ensures { result ≡ first (poll_refusals s q reading) }
-{
-    let sooner = begin_refusal(s, q, reading);
-    if sooner != 0 {
-        return sooner;
-    }
-    if q.open_flag { 0 } else { 7 }
-}
+use standby_form::{has_form, kept_marks};
+use standby_rules::{Place, Standby, StandbyEvent, UNUSED};
 
 fn no_places() -> [Place; MOST_OBSERVERS]
     ensures { result ≡ no_places }
 {
-    let unused = Place {
-        kept: false,
-        counter: 0,
-        status: Status::Alive,
-    };
-    [unused; MOST_OBSERVERS]
+    [UNUSED; MOST_OBSERVERS]
 }
 
 fn closed_round(reading: u64) -> Standby
@@ -103,191 +35,239 @@ fn closed_round(reading: u64) -> Standby
     }
 }
 
-fn is_late(s: Settings, q: Standby, reading: u64) -> bool
-    ensures { result ≡ is_late (window s) q reading }
-{
-    settings::round_window(s) < settings::less(reading, q.ts)
-}
-
+// m, the greatest counter of a kept ack, or 0.
 fn greatest_kept(places: [Place; MOST_OBSERVERS]) -> u64
-    ensures { result ≡ greatest places }
+    ensures { result ≡ greatest_by_chain places }
 {
-    let mut m: u64 = 0;
-    for i in 0..MOST_OBSERVERS {
-        let place = places[i];
-        if place.kept & (m < place.counter) {
-            m = place.counter;
-        }
-    }
-    m
+    places
+        .iter()
+        .filter(|place| place.kept)
+        .map(|place| place.counter)
+        .fold(0, |most, counter| most.max(counter))
 }
 
 // Does some kept ack say Dead with m?
+#[tactic(auto, unfolding(standby_rules::specs::Standby::is_dead))]
 fn some_dead(places: [Place; MOST_OBSERVERS], m: u64) -> bool
     ensures { result ≡ some (says_dead m) places }
 {
-    let mut found = false;
-    for i in 0..MOST_OBSERVERS {
-        let place = places[i];
-        let status = place.status;
-        found = found | (place.kept & is_dead(status) & (place.counter == m));
-    }
-    found
+    places.iter().any(|place| place.kept & (place.status == Status::Dead) & (place.counter == m))
 }
 
-// The answer at a quorum: the greatest counter decides, never a count of statuses.
-fn judge(places: [Place; MOST_OBSERVERS]) -> Answer
-    ensures { said result ≡ verdict places }
+// The verdict at a quorum: the greatest counter decides, never a count of statuses.
+#[tactic(auto, using(crate::proofs::Greatest::chain_is_greatest), unfolding(standby_rules::specs::Standby::verdict, messages::specs::Answers::words_of))]
+fn judge(places: [Place; MOST_OBSERVERS]) -> Word
+    ensures { speaks (words_of result) ≡ verdict places }
 {
-    let m = greatest_kept(places);
-    if m == 0 {
-        return Answer::Say(Word::Unknown);
-    }
-    if some_dead(places, m) {
-        Answer::Say(Word::Dead(m))
-    } else {
-        Answer::Say(Word::Alive(m))
+    match greatest_kept(places) {
+        0 => Word::Unknown,
+        m if some_dead(places, m) => Word::Dead(m),
+        m => Word::Alive(m),
     }
 }
 
-// A first ack has been put into `places`: the round closes at a quorum, or waits.
-#[tactic(auto, unfolding(standby_rules::specs::Standby::after_keeping, messages::specs::Answers::said, messages::specs::Answers::words_of))]
-fn after_keeping(s: Settings, q: Standby, reading: u64, places: [Place; MOST_OBSERVERS]) -> Stepped
-    ensures { outcome result ≡ after_keeping s q reading places }
-{
-    let marks = kept_marks(places);
-    if quorums::contains_query_quorum(s, marks) {
-        return Stepped {
-            answer: judge(places),
-            rec: closed_round(reading),
-        };
-    }
-    Stepped {
-        answer: Answer::Say(Word::Waiting),
-        rec: Standby {
-            open_flag: q.open_flag,
-            ts: q.ts,
-            last_reading: reading,
-            places: places,
-        },
-    }
-}
-
-#[tactic(auto, unfolding(messages::specs::Answers::said, messages::specs::Answers::words_of))]
-fn late(reading: u64) -> Stepped
-    ensures { outcome result ≡ (says "late" leaving closed reading) }
+// A step that says a word and sends nothing.
+#[tactic(auto, unfolding(messages::specs::Answers::said, messages::specs::Answers::given))]
+fn saying(word: Word, rec: Standby) -> Stepped<Standby>
+    ensures { outcome result ≡ (speaks (words_of word) leaving rec) }
 {
     Stepped {
-        answer: Answer::Say(Word::Late),
-        rec: closed_round(reading),
+        answer: Ok(Answer::Say(word)),
+        rec,
     }
 }
 
-// The round goes on: only the last reading changes.
-#[tactic(auto, unfolding(messages::specs::Answers::said, messages::specs::Answers::words_of))]
-fn still_waiting(q: Standby, reading: u64) -> Stepped
-    ensures { outcome result ≡ (says "waiting" leaving at_reading reading q) }
-{
-    let mut rec = q;
-    rec.last_reading = reading;
-    Stepped {
-        answer: Answer::Say(Word::Waiting),
-        rec: rec,
-    }
-}
-
-// Opens a round at this reading, forgets any other, and sends the CHECK: rule 5.4.
-#[tactic(auto, unfolding(standby_rules::specs::Standby::begin_event, messages::specs::Answers::said))]
-fn begin_event(reading: u64) -> Stepped
-    ensures { outcome result ≡ begin_event reading }
-{
-    Stepped {
-        answer: Answer::Send(Message::Check(reading)),
-        rec: Standby {
-            open_flag: true,
-            ts: reading,
-            last_reading: reading,
-            places: no_places(),
-        },
-    }
-}
-
-// An observer's ack: late, or waiting, or with the quorum a verdict.
-fn ack_event(
+// What every step is handed besides its event: the settings, the record, and the reading.
+#[derive(Clone, Copy)]
+struct Turn {
     s: Settings,
     q: Standby,
     reading: u64,
-    observer: u64,
-    counter: u64,
-    status: Status,
-) -> Stepped
-    requires { observer < most_observers }
-    ensures { outcome result ≡ ack_event (window s) s q reading observer counter status }
-{
-    if is_late(s, q, reading) {
-        return late(reading);
-    }
-    let x = observer as usize;
-    let mut places = q.places;
-    let old = places[x];
-    if old.kept {
-        return still_waiting(q, reading);
-    }
-    places[x] = Place {
-        kept: true,
-        counter: counter,
-        status: status,
-    };
-    after_keeping(s, q, reading, places)
 }
 
-// Whether the round is late or goes on.
-#[tactic(auto, unfolding(standby_rules::specs::Standby::poll_event))]
-fn poll_event(s: Settings, q: Standby, reading: u64) -> Stepped
-    ensures { outcome result ≡ poll_event (window s) q reading }
-{
-    if is_late(s, q, reading) {
-        late(reading)
-    } else {
-        still_waiting(q, reading)
-    }
-}
-
-fn refusal_of(s: Settings, q: Standby, reading: u64, event: StandbyEvent) -> u32
-    ensures { result ≡ first (refusals_of s q reading event) }
-{
-    match event {
-        StandbyEvent::Begin => begin_refusal(s, q, reading),
-        StandbyEvent::Ack(observer, ts, counter, _) => {
-            ack_refusal(s, q, reading, observer, ts, counter)
+impl Turn {
+    // Refusals 1 to 3, which every step tests first.
+    #[tactic(auto, unfolding(words::specs::Said::first, settings::specs::Settings::refusal_of))]
+    fn accept_record(self) -> Result<(), Refusal>
+        ensures { number_in result ≡ first (refusals self.s ++ (3 when not (has_form self.s self.q) ∷ [])) }
+    {
+        settings::accept(self.s)?;
+        if !has_form(self.s, self.q) {
+            return Err(Refusal::NoForm);
         }
-        StandbyEvent::Poll => poll_refusal(s, q, reading),
+        Ok(())
     }
-}
 
-fn event_of(s: Settings, q: Standby, reading: u64, event: StandbyEvent) -> Stepped
-    requires { Ready event }
-    ensures { outcome result ≡ event_within (window s) s q reading event }
-{
-    match event {
-        StandbyEvent::Begin => begin_event(reading),
-        StandbyEvent::Ack(observer, _, counter, status) => {
-            ack_event(s, q, reading, observer, counter, status)
+    #[tactic(auto, unfolding(words::specs::Said::first))]
+    fn accept_begin(self) -> Result<(), Refusal>
+        ensures { number_in result ≡ first (begin_refusals self.s self.q self.reading) }
+    {
+        self.accept_record()?;
+        if bad_reading(self.q.last_reading, self.reading) {
+            return Err(Refusal::BadReading);
         }
-        StandbyEvent::Poll => poll_event(s, q, reading),
+        Ok(())
+    }
+
+    #[tactic(auto, unfolding(words::specs::Said::first))]
+    fn accept_ack(self, observer: u64, ts: u64, counter: u64) -> Result<(), Refusal>
+        ensures { number_in result ≡ first (ack_refusals self.s self.q self.reading observer ts counter) }
+    {
+        self.accept_record()?;
+        if bad_reading(self.q.last_reading, self.reading) | (TOP_READING < ts) {
+            return Err(Refusal::BadReading);
+        }
+        if self.s.observers <= observer {
+            return Err(Refusal::NoSuchObserver);
+        }
+        if TOP_COUNTER < counter {
+            return Err(Refusal::BadCounter);
+        }
+        if !self.q.open_flag {
+            return Err(Refusal::NoRound);
+        }
+        if ts != self.q.ts {
+            return Err(Refusal::OtherRound);
+        }
+        Ok(())
+    }
+
+    #[tactic(auto, unfolding(words::specs::Said::first))]
+    fn accept_poll(self) -> Result<(), Refusal>
+        ensures { number_in result ≡ first (poll_refusals self.s self.q self.reading) }
+    {
+        self.accept_begin()?;
+        if !self.q.open_flag {
+            return Err(Refusal::NoRound);
+        }
+        Ok(())
+    }
+
+    fn accept(self, event: StandbyEvent) -> Result<(), Refusal>
+        ensures { number_in result ≡ first (refusals_of self.s self.q self.reading event) }
+    {
+        match event {
+            StandbyEvent::Begin => self.accept_begin(),
+            StandbyEvent::Ack(observer, ts, counter, _) => self.accept_ack(observer, ts, counter),
+            StandbyEvent::Poll => self.accept_poll(),
+        }
+    }
+
+    fn is_late(self) -> bool
+        ensures { result ≡ is_late (window self.s) self.q self.reading }
+    {
+        settings::round_window(self.s) < self.reading.saturating_sub(self.q.ts)
+    }
+
+    #[tactic(auto, unfolding(messages::specs::Answers::words_of))]
+    fn late(self) -> Stepped<Standby>
+        ensures { outcome result ≡ (says "late" leaving closed self.reading) }
+    {
+        saying(Word::Late, closed_round(self.reading))
+    }
+
+    // The round goes on: only the last reading changes.
+    #[tactic(auto, unfolding(messages::specs::Answers::words_of))]
+    fn still_waiting(self) -> Stepped<Standby>
+        ensures { outcome result ≡ (says "waiting" leaving at_reading self.reading self.q) }
+    {
+        let rec = Standby {
+            last_reading: self.reading,
+            ..self.q
+        };
+        saying(Word::Waiting, rec)
+    }
+
+    // A first ack has been put into `places`: the round closes at a quorum, or waits.
+    #[tactic(auto, unfolding(standby_rules::specs::Standby::after_keeping, messages::specs::Answers::words_of))]
+    fn after_keeping(self, places: [Place; MOST_OBSERVERS]) -> Stepped<Standby>
+        ensures { outcome result ≡ after_keeping self.s self.q self.reading places }
+    {
+        let marks = kept_marks(places);
+        if quorums::contains_query_quorum(self.s, marks) {
+            return saying(judge(places), closed_round(self.reading));
+        }
+        let rec = Standby {
+            last_reading: self.reading,
+            places,
+            ..self.q
+        };
+        saying(Word::Waiting, rec)
+    }
+
+    // Opens a round at this reading, forgets any other, and sends the CHECK: rule 5.4.
+    #[tactic(auto, unfolding(standby_rules::specs::Standby::begin_event, messages::specs::Answers::said, messages::specs::Answers::given))]
+    fn begin(self) -> Stepped<Standby>
+        ensures { outcome result ≡ begin_event self.reading }
+    {
+        Stepped {
+            answer: Ok(Answer::Send(Message::Check(self.reading))),
+            rec: Standby {
+                open_flag: true,
+                ts: self.reading,
+                last_reading: self.reading,
+                places: no_places(),
+            },
+        }
+    }
+
+    // An observer's ack: late, or waiting, or with the quorum a verdict.
+    #[tactic(auto, unfolding(standby_rules::specs::Standby::ack_event))]
+    fn ack(self, observer: u64, counter: u64, status: Status) -> Stepped<Standby>
+        requires { observer < most_observers }
+        ensures { outcome result ≡ ack_event (window self.s) self.s self.q self.reading observer counter status }
+    {
+        if self.is_late() {
+            return self.late();
+        }
+        let x = observer as usize;
+        if self.q.places[x].kept {
+            return self.still_waiting();
+        }
+        let mut places = self.q.places;
+        places[x] = Place {
+            kept: true,
+            counter,
+            status,
+        };
+        self.after_keeping(places)
+    }
+
+    // Whether the round is late or goes on.
+    #[tactic(auto, unfolding(standby_rules::specs::Standby::poll_event))]
+    fn poll(self) -> Stepped<Standby>
+        ensures { outcome result ≡ poll_event (window self.s) self.q self.reading }
+    {
+        if self.is_late() {
+            self.late()
+        } else {
+            self.still_waiting()
+        }
+    }
+
+    // What an accepted event does.
+    fn perform(self, event: StandbyEvent) -> Stepped<Standby>
+        requires { Ready event }
+        ensures { outcome result ≡ event_within (window self.s) self.s self.q self.reading event }
+    {
+        match event {
+            StandbyEvent::Begin => self.begin(),
+            StandbyEvent::Ack(observer, _, counter, status) => self.ack(observer, counter, status),
+            StandbyEvent::Poll => self.poll(),
+        }
     }
 }
 
 // Refusals first (rule 2.2), then the event.
-pub fn step(s: Settings, q: Standby, reading: u64, event: StandbyEvent) -> Stepped
+pub fn step(s: Settings, q: Standby, reading: u64, event: StandbyEvent) -> Stepped<Standby>
     ensures { outcome result ≡ step_of s q reading event }
 {
-    let refused = refusal_of(s, q, reading, event);
-    if refused != 0 {
-        return Stepped {
-            answer: Answer::Refused(refused),
+    let turn = Turn { s, q, reading };
+    match turn.accept(event) {
+        Ok(()) => turn.perform(event),
+        Err(refusal) => Stepped {
+            answer: Err(refusal),
             rec: q,
-        };
+        },
     }
-    event_of(s, q, reading, event)
 }

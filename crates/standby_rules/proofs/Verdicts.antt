@@ -1,18 +1,18 @@
 -- What stands behind each verdict: m is the greatest counter kept, dead has an ack that says so with m, and alive has none.
 use Rattle.std.specs.Prelude.{if◌then◌else◌}
-use Prim.Native.Nat.{ℕ, zero, suc, max, ◌+◌, ◌≤◌, ◌<◌}
+use Prim.Native.Nat.{ℕ, zero, suc, ◌≤◌, ◌<◌}
 use native.Mathlib.Omega.{arith}
 use native.Mathlib.Nat.{le_refl, le_trans}
 use mathlib.Core.Path.{◌≡◌, refl, sym, ◌∙◌}
 use mathlib.Core.Bool.{Bool, true, false, ◌&&◌}
 use mathlib.Core.List.{List, [], ◌∷◌}
-use lib.ListN.{length, drop, get_or, drop_of_length-le}
+use lib.ListN.{get_or}
 use borrow.Author.Tests.{ltb-true, ltb-false, eqb-true, eqb-false, eq-eqb}
 use Rattle.words.specs.Tests.{◌<?◌, ◌=?◌}
 use Rattle.words.specs.Lists.{some}
 use Rattle.words.specs.Said.{Said}
 use Rattle.words.proofs.Booleans.{both_hold, not_both, whether}
-use Rattle.words.proofs.Walks.{next, some_at, none_at}
+use Rattle.words.proofs.Walks.{some_at, none_at}
 use Rattle.messages.specs.declared.Status.{Status}
 use Rattle.messages.specs.declared.Status.TheVariants.{Alive, Dead}
 use Rattle.messages.specs.Answers.{Spoken, says, says_of}
@@ -58,28 +58,6 @@ one_as_high (place ∷ places) h =
 
 is_greatest : (places : List Place) → Greatest places (greatest places)
 is_greatest places = record { none_higher = none_higher places; one_as_high = one_as_high places }
-
--- a walk from the first place on: one place more, and the end
-greater : (k : Bool) (c m g : ℕ) → max m (if k && (g <? c) then c else g) ≡ max (if k && (m <? c) then c else m) g
-greater false c m g = refl
-greater true c m g =
-    whether (λ x. max m x ≡ max (if m <? c then c else m) g) (g <? c)
-    (λ above. whether (λ x. max m c ≡ max x g) (m <? c) (λ e. omega (arith, ltb-true g c above, ltb-true m c e))
-    (λ e. omega (arith, ltb-true g c above, ltb-false m c e)))
-    (λ below. whether (λ x. max m g ≡ max x g) (m <? c) (λ e. omega (arith, ltb-false g c below, ltb-true m c e)) (λ e. refl))
-
-pub greatest_more : (places : List Place) (i m : ℕ) → i < length places
-    → max m (greatest (drop i places))
-    ≡ max (if (get_or places i unused).kept && (m <? (get_or places i unused).counter) then (get_or places i unused).counter else m)
-    (greatest (drop (i + 1) places))
-unfolding greatest
-greatest_more places i m h =
-    let place = get_or places i unused in
-    rw (next unused places i h) (greater place.kept place.counter m (greatest (drop (i + 1) places)))
-
-pub greatest_done : (places : List Place) (i m : ℕ) → length places ≤ i → max m (greatest (drop i places)) ≡ m
-unfolding greatest
-greatest_done places i m h = rw (drop_of_length-le places {i = i} h) (omega arith)
 
 -- ---- What is said
 

@@ -30,6 +30,7 @@ pub struct Standby {
     pub ts: u64,
     pub last_reading: u64,
     // one place an observer, by number
+    // Kept: as many places as there can be observers, those past n unused: fixed memory.
     pub places: [Place; MOST_OBSERVERS],
 }
 

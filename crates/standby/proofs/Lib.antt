@@ -1,0 +1,2 @@
+-- Lemmas of the standby's step.
+pub mod Greatest
