@@ -1,2 +1,2 @@
--- What the reader and the writer of message lines answer.
-pub mod Answers
+-- What only the code's own readers need.
+pub mod Parts

@@ -4,129 +4,88 @@
 
 ghost use Rattle.std.specs.Prelude.{◌≡◌};
 ghost use Rattle.messages.specs.Messages.{has_form};
-ghost use Rattle.messages.specs.declared.Message.TheVariants.{LeaseRequest, LeaseGrant, Check};
-ghost use Rattle.lines_rules.specs.Reading.{only_number, one_of, read_ack_status, read_ack_counter, read_ack, read_line};
+ghost use Rattle.refusals.specs.Refusals.{said_in};
+ghost use Rattle.lines_rules.specs.Reading.{only_number, read_ack_status, read_ack_counter, read_ack, read_line};
+ghost use Rattle.lines.specs.Parts.{value_of};
 ghost use Rattle.lines_rules.specs.Writing.{write_said, write_room};
-ghost use Rattle.line_room.specs.Written.{said_of_written};
-ghost use Rattle.lines.specs.Answers.{said_of_read};
 
-use decimals::{Number, read_number};
-use fields::{is_exactly, part_from, starts};
-use line_room::{LineWritten, write_one, write_two};
+use decimals::read_number;
+use fields::{after, is_exactly, part_from};
+use line_room::{write_one, write_two};
 use messages::{Message, Status};
+use refusals::Refusal;
 
-// What the reader answers: the message, or 9.
-#[derive(Clone, Copy)]
-pub enum LineRead {
-    Got(Message),
-    Bad,
-}
-
-// The number that is all of the part but its line feed.
-fn only_number(s: &[u8], allowed: bool, greatest: u64) -> Number
-    ensures { result ≡ only_number allowed greatest s.now }
+// The value of the number that is all of the part but its line feed.
+#[tactic(auto, unfolding(lines_rules::specs::Reading::only_number, lines_rules::specs::Reading::ended))]
+fn only_number(s: &[u8], allowed: bool, greatest: u64) -> Result<u64, Refusal>
+    ensures { result ≡ value_of (only_number allowed greatest s.now) }
 {
-    let number = read_number(s, allowed, greatest);
-    match number {
-        Number::Value(value, count) => {
-            if is_exactly(part_from(s, count), b"\n") {
-                Number::Value(value, count)
-            } else {
-                Number::Bad(count)
-            }
-        }
-        Number::Bad(place) => Number::Bad(place),
+    let number = read_number(s, allowed, greatest).or(Err(Refusal::BadLine))?;
+    if is_exactly(part_from(s, number.length), b"\n") {
+        Ok(number.value)
+    } else {
+        Err(Refusal::BadLine)
     }
 }
 
-fn request_of(number: Number) -> LineRead
-    ensures { said_of_read result ≡ one_of LeaseRequest number }
-{
-    match number {
-        Number::Value(counter, _) => LineRead::Got(Message::LeaseRequest(counter)),
-        Number::Bad(_) => LineRead::Bad,
-    }
-}
-
-fn grant_of(number: Number) -> LineRead
-    ensures { said_of_read result ≡ one_of LeaseGrant number }
-{
-    match number {
-        Number::Value(counter, _) => LineRead::Got(Message::LeaseGrant(counter)),
-        Number::Bad(_) => LineRead::Bad,
-    }
-}
-
-fn check_of(number: Number) -> LineRead
-    ensures { said_of_read result ≡ one_of Check number }
-{
-    match number {
-        Number::Value(ts, _) => LineRead::Got(Message::Check(ts)),
-        Number::Bad(_) => LineRead::Bad,
-    }
-}
-
-fn read_ack_status(ts: u64, counter: u64, s: &[u8]) -> LineRead
-    ensures { said_of_read result ≡ read_ack_status ts counter s.now }
+#[tactic(auto, unfolding(lines_rules::specs::Reading::read_ack_status))]
+fn read_ack_status(ts: u64, counter: u64, s: &[u8]) -> Result<Message, Refusal>
+    ensures { said_in result ≡ read_ack_status ts counter s.now }
 {
     if is_exactly(s, b"\tAlive\n") {
-        return LineRead::Got(Message::CheckAck(ts, counter, Status::Alive));
+        return Ok(Message::CheckAck(ts, counter, Status::Alive));
     }
     if is_exactly(s, b"\tDead\n") {
-        return LineRead::Got(Message::CheckAck(ts, counter, Status::Dead));
+        return Ok(Message::CheckAck(ts, counter, Status::Dead));
     }
-    LineRead::Bad
+    Err(Refusal::BadLine)
 }
 
-fn read_ack_counter(ts: u64, s: &[u8]) -> LineRead
-    ensures { said_of_read result ≡ read_ack_counter ts s.now }
+#[tactic(auto, unfolding(lines_rules::specs::Reading::read_ack_counter, lines_rules::specs::Reading::status_behind, fields::specs::Places::behind))]
+fn read_ack_counter(ts: u64, s: &[u8]) -> Result<Message, Refusal>
+    ensures { said_in result ≡ read_ack_counter ts s.now }
 {
-    if !starts(s, b"\t") {
-        return LineRead::Bad;
-    }
-    let field = part_from(s, 1);
-    let number = read_number(field, true, messages::TOP_COUNTER);
-    match number {
-        Number::Value(counter, count) => read_ack_status(ts, counter, part_from(field, count)),
-        Number::Bad(_) => LineRead::Bad,
-    }
+    let field = after(s, b"\t").ok_or(Refusal::BadLine)?;
+    let number = read_number(field, true, messages::TOP_COUNTER).or(Err(Refusal::BadLine))?;
+    read_ack_status(ts, number.value, part_from(field, number.length))
 }
 
-fn read_ack(s: &[u8]) -> LineRead
-    ensures { said_of_read result ≡ read_ack s.now }
+#[tactic(auto, unfolding(lines_rules::specs::Reading::read_ack, lines_rules::specs::Reading::counter_behind))]
+fn read_ack(s: &[u8]) -> Result<Message, Refusal>
+    ensures { said_in result ≡ read_ack s.now }
 {
-    let number = read_number(s, true, messages::TOP_READING);
-    match number {
-        Number::Value(ts, count) => read_ack_counter(ts, part_from(s, count)),
-        Number::Bad(_) => LineRead::Bad,
-    }
+    let number = read_number(s, true, messages::TOP_READING).or(Err(Refusal::BadLine))?;
+    read_ack_counter(number.value, part_from(s, number.length))
 }
 
 // The message whose line the bytes are, or 9.
-pub fn read_line(s: &[u8]) -> LineRead
-    ensures { said_of_read result ≡ read_line s.now }
+#[tactic(auto, unfolding(lines_rules::specs::Reading::read_line, fields::specs::Places::behind))]
+pub fn read_line(s: &[u8]) -> Result<Message, Refusal>
+    ensures { said_in result ≡ read_line s.now }
 {
-    if starts(s, b"LEASE-REQUEST\t") {
-        return request_of(only_number(part_from(s, 14), false, messages::TOP_COUNTER));
+    if let Some(rest) = after(s, b"LEASE-REQUEST\t") {
+        return Ok(Message::LeaseRequest(only_number(rest, false, messages::TOP_COUNTER)?));
     }
-    if starts(s, b"LEASE-GRANT\t") {
-        return grant_of(only_number(part_from(s, 12), false, messages::TOP_COUNTER));
+    if let Some(rest) = after(s, b"LEASE-GRANT\t") {
+        return Ok(Message::LeaseGrant(only_number(rest, false, messages::TOP_COUNTER)?));
     }
-    if starts(s, b"CHECK\t") {
-        return check_of(only_number(part_from(s, 6), true, messages::TOP_READING));
+    if let Some(rest) = after(s, b"CHECK\t") {
+        return Ok(Message::Check(only_number(rest, true, messages::TOP_READING)?));
     }
-    if starts(s, b"CHECK-ACK\t") {
-        return read_ack(part_from(s, 10));
+    if let Some(rest) = after(s, b"CHECK-ACK\t") {
+        return read_ack(rest);
     }
-    LineRead::Bad
+    Err(Refusal::BadLine)
 }
 
+#[tactic(auto, unfolding(messages::specs::Messages::has_form))]
 fn has_form(m: Message) -> bool
     ensures { result ≡ has_form m }
 {
     match m {
-        Message::LeaseRequest(counter) => (1 <= counter) & (counter <= messages::TOP_COUNTER),
-        Message::LeaseGrant(counter) => (1 <= counter) & (counter <= messages::TOP_COUNTER),
+        Message::LeaseRequest(counter) | Message::LeaseGrant(counter) => {
+            (1 <= counter) & (counter <= messages::TOP_COUNTER)
+        }
         Message::Check(ts) => ts <= messages::TOP_READING,
         Message::CheckAck(ts, counter, _) => {
             (ts <= messages::TOP_READING) & (counter <= messages::TOP_COUNTER)
@@ -136,19 +95,22 @@ fn has_form(m: Message) -> bool
 
 // Writes the message's line at the front of the room. What stands behind the line is not touched, and where no line is
 // written nothing is.
-pub fn write_line(m: Message, out: &mut [u8]) -> LineWritten
-    ensures { (said_of_written result ≡ write_said m out.old) × (out.new ≡ write_room m out.old) }
+#[tactic(auto, unfolding(lines_rules::specs::Writing::write_said, lines_rules::specs::Writing::write_room), using(lines_rules::proofs::Lines::check_line, lines_rules::proofs::Lines::alive_line, lines_rules::proofs::Lines::dead_line))]
+pub fn write_line(m: Message, out: &mut [u8]) -> Result<usize, Refusal>
+    ensures { (said_in result ≡ write_said m out.old) × (out.new ≡ write_room m out.old) }
 {
     if !has_form(m) {
-        return LineWritten::Bad;
+        return Err(Refusal::BadLine);
     }
     match m {
         Message::LeaseRequest(counter) => write_one(b"LEASE-REQUEST\t", counter, out),
         Message::LeaseGrant(counter) => write_one(b"LEASE-GRANT\t", counter, out),
         Message::Check(ts) => write_one(b"CHECK\t", ts, out),
-        Message::CheckAck(ts, counter, status) => match status {
-            Status::Alive => write_two(b"CHECK-ACK\t", ts, counter, b"\tAlive\n", out),
-            Status::Dead => write_two(b"CHECK-ACK\t", ts, counter, b"\tDead\n", out),
-        },
+        Message::CheckAck(ts, counter, Status::Alive) => {
+            write_two(b"CHECK-ACK\t", ts, counter, b"\tAlive\n", out)
+        }
+        Message::CheckAck(ts, counter, Status::Dead) => {
+            write_two(b"CHECK-ACK\t", ts, counter, b"\tDead\n", out)
+        }
     }
 }

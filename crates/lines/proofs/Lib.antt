@@ -1,2 +1,0 @@
--- The reader's answers.
-pub mod Answers
