@@ -20,13 +20,14 @@ use Rattle.decimals.proofs.Digits.{digits_twenty, digits_all}
 use Rattle.decimals.proofs.Reading.{digit_range}
 use Rattle.settings.specs.declared.Settings.{Settings}
 use Rattle.settings.specs.Settings.{refusal_of}
-use Rattle.settings.specs.Answers.{Values, judged}
+use Rattle.settings.specs.declared.Accepted.{Accepted}
+use Rattle.settings.specs.Answers.{judged}
 use Rattle.messages.specs.declared.Status.TheVariants.{Alive, Dead}
 use Rattle.messages.specs.declared.Message.TheVariants.{LeaseRequest, LeaseGrant, Check, CheckAck}
 use Rattle.messages.specs.declared.Answer.{Answer}
-use Rattle.messages.specs.declared.Answer.TheVariants.{Refused, Send, Say}
+use Rattle.messages.specs.declared.Answer.TheVariants.{Send, Say}
 use Rattle.messages.specs.declared.Word.TheVariants.{Unregistered, Running, Stopped, Silent, Cut, Waiting, Late, Unknown, Dead as SaysDead, Alive as SaysAlive}
-use Rattle.messages.specs.Answers.{says, said, words_of}
+use Rattle.messages.specs.Answers.{refuses, says, given, words_of}
 use Rattle.lines_rules.specs.Writing.{joined, one_number, two_numbers}
 use Rattle.answer_lines.specs.Answers.{answer_line, signed, value_fields, settings_answer}
 use Rattle.answer_lines.proofs.Lines.{refusal_line, request_line, grant_line, check_line, alive_line, dead_line, word_line, value_line}
@@ -93,10 +94,13 @@ word w p l =
       short = rw (word_line w) (simp length-append (omega arith));
     }
 
+-- a refusal's number alone
+pub refusal_line_lem : (k : ℕ) → OneLine 60 (answer_line (refuses k))
+refusal_line_lem k = rw (refusal_line k) (one_number_lem [] k refl (omega arith))
+
 -- a step's answer
-pub answer_line_lem : (a : Answer) → OneLine 60 (answer_line (said a))
-unfolding said words_of
-answer_line_lem (Refused k) = rw (refusal_line k) (one_number_lem [] k refl (omega arith))
+pub answer_line_lem : (a : Answer) → OneLine 60 (answer_line (given a))
+unfolding given words_of
 answer_line_lem (Send (LeaseRequest c)) = rw (request_line c) (one_number_lem (text "0\tLEASE-REQUEST\t") c refl (omega arith))
 answer_line_lem (Send (LeaseGrant c)) = rw (grant_line c) (one_number_lem (text "0\tLEASE-GRANT\t") c refl (omega arith))
 answer_line_lem (Send (Check ts)) = rw (check_line ts) (one_number_lem (text "0\tCHECK\t") ts refl (omega arith))
@@ -137,15 +141,15 @@ refused_line k =
 zeroed : (xs : List ℕ) → Plain xs → Plain (text "0\t" ++ xs)
 zeroed xs p = also (text "0\t") xs refl p
 
-values_line_lem : (v : Values) → OneLine 89 (joined (digits 0 ∷ value_fields (gives v)))
+values_line_lem : (v : Accepted) → OneLine 89 (joined (digits 0 ∷ value_fields (gives v)))
 unfolding joined value_fields digits digits_in
 values_line_lem v =
-    let W = digits v.W in
+    let W = digits v.window in
     let a = signed v.slacks.a in
     let b = signed v.slacks.b in
     let c = signed v.slacks.c in
     let tab = text "\t" in
-    let one = zeroed W (number_plain v.W) in
+    let one = zeroed W (number_plain v.window) in
     let two = tabbed (text "0\t" ++ W) a one (signed_plain v.slacks.a) in
     let three = tabbed (text "0\t" ++ W ++ tab ++ a) b two (signed_plain v.slacks.b) in
     record {
@@ -154,11 +158,11 @@ values_line_lem v =
       is = simp append_assoc;
       short =
           simp length-append (omega
-          (arith, digits_twenty v.W, signed_most v.slacks.a, signed_most v.slacks.b, signed_most v.slacks.c));
+          (arith, digits_twenty v.window, signed_most v.slacks.a, signed_most v.slacks.b, signed_most v.slacks.c));
     }
 
 pub settings_line_lem : (s : Settings) → OneLine 89 (settings_answer s)
 unfolding settings_answer judged number value_fields
 settings_line_lem s =
-    whether (λ (answer : Said Values). OneLine 89 (joined (digits (number answer) ∷ value_fields answer))) (refusal_of s =? 0)
+    whether (λ (answer : Said Accepted). OneLine 89 (joined (digits (number answer) ∷ value_fields answer))) (refusal_of s =? 0)
     (λ _. values_line_lem _) (λ _. refused_line (refusal_of s))

@@ -6,7 +6,8 @@ use Rattle.words.specs.Said.{Said, number}
 use Rattle.words.specs.Said.Said.{refusal, gives}
 use Rattle.decimals.specs.Decimals.{digits}
 use Rattle.settings.specs.declared.Settings.{Settings}
-use Rattle.settings.specs.Answers.{Values, judged}
+use Rattle.settings.specs.declared.Accepted.{Accepted}
+use Rattle.settings.specs.Answers.{judged}
 use Rattle.messages.specs.Answers.{Spoken, spoken_fields}
 use Rattle.lines_rules.specs.Writing.{bytes_of, joined}
 
@@ -20,9 +21,9 @@ signed (pos n) = digits n
 signed (negsuc n) = text "-" ++ digits (suc n)
 
 -- the settings' answer: W and the slacks, or the values behind a refusal
-unfoldable pub value_fields : Said Values → List (List ℕ)
+unfoldable pub value_fields : Said Accepted → List (List ℕ)
 value_fields (refusal k values) = map digits values
-value_fields (gives v) = digits v.W ∷ signed v.slacks.a ∷ signed v.slacks.b ∷ signed v.slacks.c ∷ []
+value_fields (gives v) = digits v.window ∷ signed v.slacks.a ∷ signed v.slacks.b ∷ signed v.slacks.c ∷ []
 
 unfoldable pub settings_answer : Settings → List ℕ
 settings_answer s = joined (digits (number (judged s)) ∷ value_fields (judged s))

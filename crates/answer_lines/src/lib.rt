@@ -1,22 +1,23 @@
 // The lines that answer a step file. Serves rules 7.6 and 7.7.
 #![tactic(auto)]
 
-ghost use Rattle.std.specs.Prelude.{◌≡◌, false, pos};
-ghost use Rattle.settings.specs.Settings.{negative};
-ghost use Rattle.messages.specs.Answers.{said, sends, speaks, words_of};
-ghost use Rattle.line_room.specs.Written.{said_of_written};
-ghost use Rattle.lines_rules.specs.Writing.{fitting, filled};
+ghost use Rattle.std.specs.Prelude.{◌≡◌, ◌+◌, ◌≤◌, [], length};
+ghost use Rattle.fields.specs.Places.{put_at};
+ghost use Rattle.refusals.specs.Refusals.{number_of, said_in};
+ghost use Rattle.messages.specs.Answers.{said, given, sends, speaks, words_of};
+ghost use Rattle.lines_rules.specs.Writing.{fitting, filled, one_number};
 ghost use Rattle.answer_lines.specs.Answers.{answer_line, settings_answer};
-ghost use Rattle.answer_lines.specs.Parts.{values_line};
+ghost use Rattle.answer_lines.specs.Parts.{value_part, values_line};
 
 use decimals::{digit_count, put_number};
 use fields::put_bytes;
-use line_room::{LineWritten, write_one, write_two, write_word};
+use line_room::{write_one, write_two, write_word};
 use messages::{Answer, Message, Status, Word};
-use settings::{Judged, Settings, judge};
+use refusals::Refusal;
+use settings::{Accepted, Settings, judge};
 
-fn write_message(m: Message, out: &mut [u8]) -> LineWritten
-    ensures { (said_of_written result ≡ fitting (answer_line (sends m)) out.old) × (out.new ≡ filled (answer_line (sends m)) out.old) }
+fn write_message(m: Message, out: &mut [u8]) -> Result<usize, Refusal>
+    ensures { (said_in result ≡ fitting (answer_line (sends m)) out.old) × (out.new ≡ filled (answer_line (sends m)) out.old) }
 {
     match m {
         Message::LeaseRequest(counter) => write_one(b"0\tLEASE-REQUEST\t", counter, out),
@@ -29,8 +30,8 @@ fn write_message(m: Message, out: &mut [u8]) -> LineWritten
     }
 }
 
-fn write_said(word: Word, out: &mut [u8]) -> LineWritten
-    ensures { (said_of_written result ≡ fitting (answer_line (speaks (words_of word))) out.old) × (out.new ≡ filled (answer_line (speaks (words_of word))) out.old) }
+fn write_said(word: Word, out: &mut [u8]) -> Result<usize, Refusal>
+    ensures { (said_in result ≡ fitting (answer_line (speaks (words_of word))) out.old) × (out.new ≡ filled (answer_line (speaks (words_of word))) out.old) }
 {
     match word {
         Word::Unregistered => write_word(b"0\tunregistered\n", out),
@@ -46,52 +47,70 @@ fn write_said(word: Word, out: &mut [u8]) -> LineWritten
     }
 }
 
-// Writes the line of a step's answer at the front of the room, or nothing where it does not fit.
-pub fn write_answer(answer: Answer, out: &mut [u8]) -> LineWritten
-    ensures { (said_of_written result ≡ fitting (answer_line (said answer)) out.old) × (out.new ≡ filled (answer_line (said answer)) out.old) }
+// A refusal's number alone.
+fn write_refusal(refusal: Refusal, out: &mut [u8]) -> Result<usize, Refusal>
+    ensures { (said_in result ≡ fitting (one_number [] (number_of refusal)) out.old) × (out.new ≡ filled (one_number [] (number_of refusal)) out.old) }
+{
+    let number = u32::from(refusal);
+    write_one(b"", u64::from(number), out)
+}
+
+#[tactic(auto, unfolding(messages::specs::Answers::given))]
+fn write_given(answer: Answer, out: &mut [u8]) -> Result<usize, Refusal>
+    ensures { (said_in result ≡ fitting (answer_line (given answer)) out.old) × (out.new ≡ filled (answer_line (given answer)) out.old) }
 {
     match answer {
-        Answer::Refused(number) => write_one(b"", number as u64, out),
         Answer::Send(m) => write_message(m, out),
         Answer::Say(word) => write_said(word, out),
     }
 }
 
-// A number that is not below 0.
-fn whole(z: i64) -> u64
-    requires { negative z ≡ false }
-    ensures { pos result ≡ z }
+// Writes the line of a step's answer at the front of the room, or nothing where it does not fit.
+#[tactic(auto, using(crate::proofs::Lines::refusal_line), unfolding(messages::specs::Answers::said))]
+pub fn write_answer(answer: Result<Answer, Refusal>, out: &mut [u8]) -> Result<usize, Refusal>
+    ensures { (said_in result ≡ fitting (answer_line (said answer)) out.old) × (out.new ≡ filled (answer_line (said answer)) out.old) }
 {
-    z as u64
+    match answer {
+        Ok(answer) => write_given(answer, out),
+        Err(refusal) => write_refusal(refusal, out),
+    }
 }
 
-fn write_values(window: u64, a: u64, b: u64, c: u64, out: &mut [u8]) -> LineWritten
-    ensures { (said_of_written result ≡ fitting (values_line window a b c) out.old) × (out.new ≡ filled (values_line window a b c) out.old) }
+// Writes a value behind its tab and gives the next place.
+fn put_value(out: &mut [u8], at: usize, value: u64) -> usize
+    requires { at + length (value_part value) ≤ length out.old }
+    ensures { (result ≡ at + length (value_part value)) × (out.new ≡ put_at out.old at (value_part value)) }
 {
-    let numbers = digit_count(window) + digit_count(a) + digit_count(b) + digit_count(c);
+    let value_at = put_bytes(out, at, b"\t");
+    put_number(out, value_at, value)
+}
+
+// Writes the line of accepted settings: no slack of theirs is below 0.
+fn write_values(accepted: Accepted, out: &mut [u8]) -> Result<usize, Refusal>
+    ensures { (said_in result ≡ fitting (values_line accepted) out.old) × (out.new ≡ filled (values_line accepted) out.old) }
+{
+    let a = accepted.slacks.a.unsigned_abs();
+    let b = accepted.slacks.b.unsigned_abs();
+    let c = accepted.slacks.c.unsigned_abs();
+    let numbers = digit_count(accepted.window) + digit_count(a) + digit_count(b) + digit_count(c);
     if out.len() < numbers + 6 {
-        return LineWritten::Short;
+        return Err(Refusal::WrongRoom);
     }
-    let window_at = put_bytes(out, 0, b"0\t");
-    let behind_window = put_number(out, window_at, window);
-    let a_at = put_bytes(out, behind_window, b"\t");
-    let behind_a = put_number(out, a_at, a);
-    let b_at = put_bytes(out, behind_a, b"\t");
-    let behind_b = put_number(out, b_at, b);
-    let c_at = put_bytes(out, behind_b, b"\t");
-    let end_at = put_number(out, c_at, c);
-    LineWritten::Length(put_bytes(out, end_at, b"\n"))
+    let window_at = put_bytes(out, 0, b"0");
+    let a_at = put_value(out, window_at, accepted.window);
+    let b_at = put_value(out, a_at, a);
+    let c_at = put_value(out, b_at, b);
+    let end_at = put_value(out, c_at, c);
+    Ok(put_bytes(out, end_at, b"\n"))
 }
 
 // The same for the line that answers the settings.
-pub fn write_settings_answer(s: Settings, out: &mut [u8]) -> LineWritten
-    ensures { (said_of_written result ≡ fitting (settings_answer s) out.old) × (out.new ≡ filled (settings_answer s) out.old) }
+#[tactic(auto, using(crate::proofs::Lines::accepted_answer, crate::proofs::Lines::refused_answer))]
+pub fn write_settings_answer(s: Settings, out: &mut [u8]) -> Result<usize, Refusal>
+    ensures { (said_in result ≡ fitting (settings_answer s) out.old) × (out.new ≡ filled (settings_answer s) out.old) }
 {
-    let judged = judge(s);
-    match judged {
-        Judged::Accepted { window, a, b, c } => {
-            write_values(window, whole(a), whole(b), whole(c), out)
-        }
-        Judged::Refused(number) => write_one(b"", number as u64, out),
+    match judge(s) {
+        Ok(accepted) => write_values(accepted, out),
+        Err(refusal) => write_refusal(refusal, out),
     }
 }

@@ -1,5 +1,5 @@
 -- Each answer is one line, so each line gets one.
-use Rattle.std.specs.Prelude.{if◌then◌else◌}
+use Rattle.std.specs.Prelude.{if◌then◌else◌, Option, Some, None}
 use Prim.Native.Nat.{ℕ, suc}
 use mathlib.Core.Path.{◌≡◌, refl, ap, ◌∙◌}
 use mathlib.Core.Bool.{Bool, true, false}
@@ -10,16 +10,15 @@ use Rattle.words.specs.Tests.{◌<?◌, ◌=?◌}
 use Rattle.words.specs.Lists.{text, every}
 use Rattle.words.proofs.Booleans.{both_hold}
 use Rattle.settings.specs.Settings.{refusal_of}
-use Rattle.messages.specs.declared.Answer.TheVariants.{Refused}
-use Rattle.messages.specs.Answers.{said}
-use Rattle.step_lines.specs.declared.SettingsLine.{SettingsLine}
-use Rattle.step_lines.specs.declared.SettingsLine.TheVariants.{Given, Bad}
+use Rattle.messages.specs.Answers.{refuses}
+use Rattle.settings.specs.declared.Settings.{Settings}
 use Rattle.step_lines.specs.Reading.{settings_line, step_line}
 use Rattle.answer_lines.specs.Answers.{answer_line, settings_answer}
-use Rattle.answer_lines.proofs.OneLine.{is_plain, OneLine, answer_line_lem, settings_line_lem}
+use Rattle.answer_lines.proofs.OneLine.{is_plain, OneLine, refusal_line_lem, settings_line_lem}
 use Rattle.session.specs.declared.Session.{Session}
 use Rattle.session.specs.Session.{started, perform_of}
 use Rattle.session.proofs.Spoken.{performed}
+use Rattle.stepfile_rules.proofs.Steps.{one_answer}
 use Rattle.stepfile_rules.specs.Lines.{onto, lines_of}
 use Rattle.stepfile_rules.specs.Files.{answers_to, after_settings, answers_of, most_bytes, answers}
 use Rattle.stepfile_rules.specs.Claims.{starts_run, answered_of, answered_lines, OneLineEach}
@@ -44,18 +43,17 @@ in_a_run : (q : Session) (lines : List (List ℕ)) → length (lines_of (answers
 unfolding answers_to lines_of
 in_a_run q [] = refl
 in_a_run q (line ∷ lines) =
-    let p = performed q (step_line line) in
     let later = in_a_run (perform_of q (step_line line)).rec lines in
-    rw p.1 (one_line (answer_line (said p.0)) _ (answer_line_lem p.0) ∙ ap suc later)
+    one_line (answer_line (perform_of q (step_line line)).answer) _ (one_answer (performed q (step_line line))) ∙ ap suc later
 
-refused : (k : ℕ) → length (lines_of (answer_line (said (Refused k)))) ≡ 1
-refused k = alone _ (answer_line_lem (Refused k))
+refused : (k : ℕ) → length (lines_of (answer_line (refuses k))) ≡ 1
+refused k = alone _ (refusal_line_lem k)
 
-after : (first : SettingsLine) (lines : List (List ℕ))
+after : (first : Option Settings) (lines : List (List ℕ))
     → length (lines_of (after_settings first lines)) ≡ (if starts_run first then suc (length lines) else 1)
-unfolding after_settings starts_run said
-after Bad lines = refused 9
-after (Given s) lines = by (refusal_of s =? 0)
+unfolding after_settings starts_run
+after None lines = refused 9
+after (Some s) lines = by (refusal_of s =? 0)
   where
     by : (t : Bool) → length (lines_of (settings_answer s ++ (if t then answers_to (started s) lines else [])))
         ≡ (if t then suc (length lines) else 1)
@@ -68,10 +66,10 @@ in_lines [] = refl
 in_lines (line ∷ lines) = after (settings_line line) lines
 
 in_a_file : (input : List ℕ) → length (lines_of (answers input)) ≡ answered_lines input
-unfolding answers answered_lines said
+unfolding answers answered_lines
 in_a_file input = by (most_bytes <? length input)
   where
-    by : (t : Bool) → length (lines_of (if t then answer_line (said (Refused 10)) else answers_of (lines_of input)))
+    by : (t : Bool) → length (lines_of (if t then answer_line (refuses 10) else answers_of (lines_of input)))
         ≡ (if t then 1 else answered_of (lines_of input))
     by true = refused 10
     by false = in_lines (lines_of input)

@@ -1,5 +1,5 @@
 -- The first line, and what is written of its answer.
-use Rattle.std.specs.Prelude.{if◌then◌else◌}
+use Rattle.std.specs.Prelude.{if◌then◌else◌, Option, Some, None}
 use Prim.Native.Nat.{ℕ, ◌+◌, ◌*◌, ◌≤◌, ◌<◌}
 use native.Mathlib.Omega.{arith}
 use native.Mathlib.Nat.{zero-add}
@@ -21,8 +21,6 @@ use Rattle.settings.specs.Settings.{refusal_of}
 use Rattle.messages.specs.Answers.{refuses}
 use Rattle.lines_rules.specs.Writing.{fitting, filled}
 use Rattle.lines_rules.proofs.Lines.{fits_said, fits_room}
-use Rattle.step_lines.specs.declared.SettingsLine.{SettingsLine}
-use Rattle.step_lines.specs.declared.SettingsLine.TheVariants.{Given, Bad}
 use Rattle.step_lines.specs.Reading.{settings_line}
 use Rattle.step_lines.proofs.Lengths.{needed_first, settings_line_length}
 use Rattle.answer_lines.specs.Answers.{answer_line, settings_answer}
@@ -52,7 +50,7 @@ module _ (input : List ℕ) (some : 0 < length input) (count : ℕ) (counted : c
   opened = rw (first_line input some, counted) refl
 
   -- 14 bytes or more have at most 89
-  pub settings_fit : (s : Settings) → settings_line (take count input) ≡ Given s → length (settings_answer s) ≤ 7 * count
+  pub settings_fit : (s : Settings) → settings_line (take count input) ≡ Some s → length (settings_answer s) ≤ 7 * count
   settings_fit s e =
       let long = length-take-le count input first_within in
       let least = rw e at (settings_line_length (take count input)) in
@@ -60,12 +58,12 @@ module _ (input : List ℕ) (some : 0 < length input) (count : ℕ) (counted : c
       omega (arith, least, most, long)
 
   -- the run goes on, or ends
-  pub goes_on : (s : Settings) → settings_line (take count input) ≡ Given s → refusal_of s =? 0 ≡ true
+  pub goes_on : (s : Settings) → settings_line (take count input) ≡ Some s → refusal_of s =? 0 ≡ true
       → answers_of (lines_of input) ≡ settings_answer s ++ answers_to (started s) (lines_of (drop count input))
   unfolding after_settings
   goes_on s e accepted = opened ∙ rw (e, accepted) refl
 
-  pub ends : (s : Settings) → settings_line (take count input) ≡ Given s → refusal_of s =? 0 ≡ false
+  pub ends : (s : Settings) → settings_line (take count input) ≡ Some s → refusal_of s =? 0 ≡ false
       → answers_of (lines_of input) ≡ settings_answer s
   unfolding after_settings
   ends s e refused = opened ∙ rw (e, refused) (append-nil (settings_answer s))
@@ -103,11 +101,11 @@ unfolding digits digits_in
 ten = rw (refusal_line 10) refl
 
 -- the answers to a run never take more than 7 times its length
-first_short : (first : SettingsLine) (count : ℕ) (rest : List ℕ) → needed_first first ≤ count → 0 < count
+first_short : (first : Option Settings) (count : ℕ) (rest : List ℕ) → needed_first first ≤ count → 0 < count
     → length (after_settings first (lines_of rest)) ≤ 7 * (count + length rest)
 unfolding after_settings digits digits_in
-first_short Bad count rest h some = rw (refusal_line 9) (omega arith)
-first_short (Given s) count rest h some =
+first_short None count rest h some = rw (refusal_line 9) (omega arith)
+first_short (Some s) count rest h some =
     let most = (settings_line_lem s).short in
     let later : length (if refusal_of s =? 0 then answers_to (started s) (lines_of rest) else []) ≤ 7 * length rest
     = whether (λ (l : List ℕ). length l ≤ 7 * length rest) (refusal_of s =? 0) (λ e. answers_short (started s) rest)

@@ -1,4 +1,5 @@
 -- The loop over the step lines: what has been written so far, and what is still to come, are the answers.
+use Rattle.std.specs.Prelude.{Option, Some, None}
 use Prim.Native.Nat.{ℕ, zero, suc, ◌+◌, ◌-◌, ◌*◌, ◌≤◌, ◌<◌}
 use native.Mathlib.Omega.{arith}
 use native.Mathlib.Nat.{le_refl}
@@ -17,25 +18,30 @@ use Rattle.recorder_rules.specs.declared.Recorder as Recorder
 use Rattle.observer_rules.specs.declared.Observer as Observer
 use Rattle.standby_rules.specs.declared.Standby as Standby
 use Rattle.step_lines.specs.declared.StepLine.{StepLine}
-use Rattle.step_lines.specs.declared.StepLine.TheVariants.{Recorder, Observer, Standby, Bad}
 use Rattle.step_lines.specs.Reading.{step_line}
 use Rattle.step_lines.proofs.Lengths.{needed, step_line_length}
 use Rattle.answer_lines.specs.Answers.{answer_line}
 use Rattle.answer_lines.proofs.Lines.{refusal_line}
-use Rattle.answer_lines.proofs.OneLine.{answer_line_lem}
+use Rattle.answer_lines.proofs.OneLine.{OneLine, refusal_line_lem, answer_line_lem}
 use Rattle.session.specs.declared.Session.{Session}
 use Rattle.session.specs.Session.{perform_of}
 use Rattle.session.proofs.Spoken.{IsAnswer, performed}
+use Rattle.session.proofs.Spoken.IsAnswer.{refuses_by, gives_it}
 use Rattle.stepfile_rules.specs.Lines.{lines_of}
 use Rattle.stepfile_rules.specs.Parts.{line_length}
 use Rattle.stepfile_rules.specs.Files.{answers_to}
 use Rattle.stepfile_rules.proofs.Lines.{line_some, line_within, first_line}
 
--- An answer is at most 7 times as long as its line: 9 bytes or more have at most 60, and a bad line has 2.
-long : (x : Said Spoken) (count : ℕ) → IsAnswer x → 9 ≤ count → length (answer_line x) ≤ 7 * count
-long x count p h = let short = (answer_line_lem p.0).short in rw p.1 (omega arith)
+-- every answer is one line
+pub one_answer : {x : Said Spoken} → IsAnswer x → OneLine 60 (answer_line x)
+one_answer (refuses_by k) = refusal_line_lem k
+one_answer (gives_it a) = answer_line_lem a
 
-bad : (q : Session) (count : ℕ) → 0 < count → length (answer_line (perform_of q Bad).answer) ≤ 7 * count
+-- An answer is at most 7 times as long as its line: 9 bytes or more have at most 60, and the answer to no line has 2.
+long : (x : Said Spoken) (count : ℕ) → IsAnswer x → 9 ≤ count → length (answer_line x) ≤ 7 * count
+long x count p h = let short = (one_answer p).short in omega arith
+
+bad : (q : Session) (count : ℕ) → 0 < count → length (answer_line (perform_of q None).answer) ≤ 7 * count
 unfolding perform_of digits digits_in
 bad q count h = rw (refusal_line 9) (omega arith)
 
@@ -43,11 +49,9 @@ pub answer_short : (q : Session) (line : List ℕ) → 0 < length line
     → length (answer_line (perform_of q (step_line line)).answer) ≤ 7 * length line
 answer_short q line some = by (step_line line) (step_line_length line)
   where
-    by : (l : StepLine) → needed l ≤ length line → length (answer_line (perform_of q l).answer) ≤ 7 * length line
-    by Bad h = bad q (length line) some
-    by (Recorder r step) h = long _ _ (performed q (Recorder r step)) h
-    by (Observer x r step) h = long _ _ (performed q (Observer x r step)) h
-    by (Standby r step) h = long _ _ (performed q (Standby r step)) h
+    by : (l : Option StepLine) → needed l ≤ length line → length (answer_line (perform_of q l).answer) ≤ 7 * length line
+    by None h = bad q (length line) some
+    by (Some l) h = long _ _ (performed q (Some l)) h
 
 -- all answers together
 no_lines : lines_of [] ≡ []

@@ -1,9 +1,8 @@
 -- What the answers to a file keep, whatever the file.
-use Rattle.std.specs.Prelude.{ℕ, suc, ◌≤◌, Bool, false, List, [], ◌∷◌, ◌≡◌, length, if◌then◌else◌}
+use Rattle.std.specs.Prelude.{ℕ, suc, ◌≤◌, Bool, false, List, [], ◌∷◌, ◌≡◌, length, if◌then◌else◌, Option, Some, None}
 use Rattle.words.specs.Tests.{◌<?◌, ◌=?◌}
 use Rattle.settings.specs.Settings.{refusal_of}
-use Rattle.step_lines.specs.declared.SettingsLine.{SettingsLine}
-use Rattle.step_lines.specs.declared.SettingsLine.TheVariants.{Given, Bad}
+use Rattle.settings.specs.declared.Settings.{Settings}
 use Rattle.step_lines.specs.Reading.{settings_line}
 use Rattle.session.specs.declared.Session.{Session}
 use Rattle.stepfile_rules.specs.Lines.{lines_of, together}
@@ -18,9 +17,9 @@ abbrev pub RoomIsEnough : Type 0
 RoomIsEnough = (input : List ℕ) → length (answers input) ≤ room_for (length input)
 
 -- how many lines are answered: all of them, if the first starts a run; else the first alone
-unfoldable pub starts_run : SettingsLine → Bool
-starts_run (Given s) = refusal_of s =? 0
-starts_run Bad = false
+unfoldable pub starts_run : Option Settings → Bool
+starts_run (Some s) = refusal_of s =? 0
+starts_run None = false
 
 unfoldable pub answered_of : List (List ℕ) → ℕ
 answered_of [] = 0

@@ -1,12 +1,11 @@
 -- The answers to a step file, line by line.
-use Rattle.std.specs.Prelude.{ℕ, ◌*◌, List, [], ◌∷◌, ◌++◌, length, drop, if◌then◌else◌}
+use Rattle.std.specs.Prelude.{ℕ, ◌*◌, List, [], ◌∷◌, ◌++◌, length, drop, if◌then◌else◌, Option, Some, None}
 use Rattle.words.specs.Tests.{◌<?◌, ◌=?◌}
 use Rattle.words.specs.Said.{Said, refused}
 use Rattle.words.specs.Said.Said.{gives}
 use Rattle.settings.specs.Settings.{refusal_of}
 use Rattle.messages.specs.Answers.{refuses}
-use Rattle.step_lines.specs.declared.SettingsLine.{SettingsLine}
-use Rattle.step_lines.specs.declared.SettingsLine.TheVariants.{Given, Bad}
+use Rattle.settings.specs.declared.Settings.{Settings}
 use Rattle.step_lines.specs.Reading.{settings_line, step_line}
 use Rattle.answer_lines.specs.Answers.{answer_line, settings_answer}
 use Rattle.session.specs.declared.Session.{Session}
@@ -21,9 +20,9 @@ answers_to session (line ∷ lines) =
     answer_line (perform_of session (step_line line)).answer ++ answers_to (perform_of session (step_line line)).rec lines
 
 -- rules 7.7 and 7.8: settings that are refused end the run, and so does a first line that gives none
-unfoldable pub after_settings : SettingsLine → List (List ℕ) → List ℕ
-after_settings (Given s) lines = settings_answer s ++ (if refusal_of s =? 0 then answers_to (started s) lines else [])
-after_settings Bad lines = answer_line (refuses 9)
+unfoldable pub after_settings : Option Settings → List (List ℕ) → List ℕ
+after_settings (Some s) lines = settings_answer s ++ (if refusal_of s =? 0 then answers_to (started s) lines else [])
+after_settings None lines = answer_line (refuses 9)
 
 -- rule 7.10: empty input gets nothing
 unfoldable pub answers_of : List (List ℕ) → List ℕ
