@@ -8,7 +8,6 @@ use mathlib.Core.List.{List, [], ◌∷◌}
 use lib.ListN.{length}
 use borrow.Author.Tests.{eqb-true, eqb-false, eq-eqb, ne_eqb}
 use Rattle.words.specs.Tests.{◌=?◌}
-use Rattle.words.specs.Lists.{every}
 use Rattle.words.specs.Said.{first, ◌when◌}
 use Rattle.words.proofs.Said.{first_stays, first_goes_on}
 use Rattle.settings.specs.declared.Settings.{Settings}

@@ -9,9 +9,7 @@ use lib.ListN.{length, take, drop, get_or, set, replicate, length-append, drop_o
 use lib.Seq.{drop-cons, drop-drop, length-take-le, set_at, take-suc}
 use Rattle.fields.specs.Places.{put_at}
 use Rattle.fields.proofs.Rooms.{put_fits, put_more}
-use Rattle.recorder_rules.specs.declared.Recorder.{Recorder}
-use Rattle.recorder_rules.specs.Recorder.{last_send_of, last_reading_of, open_lease_count}
-use Rattle.firmware_rules.specs.Bytes.{word_of, bytes_in, words_at, bytes_of, encoded}
+use Rattle.firmware_rules.specs.Bytes.{word_of, bytes_in, words_at, bytes_of}
 
 -- one byte of a part
 byte_more : (b : List ℕ) (at k : ℕ) → at < length b → take (suc k) (drop at b) ≡ get_or b at 0 ∷ take k (drop (at + 1) b)
@@ -139,42 +137,23 @@ put_whole : (b bytes : List ℕ) → length bytes ≡ length b → put_at b 0 by
 put_whole b bytes e =
     put_fits b 0 bytes (omega (arith, e)) ∙ rw (drop_of_length-le b {i = 0 + length bytes} (omega (arith, e))) (append-nil bytes)
 
-pub record_put : (b : List ℕ) (rec : Recorder) → length b ≡ 680 → length rec.sends ≡ 64 → length rec.grants ≡ 16
-    → put_at
-    (put_at
-    (put_at (put_at (put_at (put_at (put_at b 0 (bytes_in 8 rec.stopped)) 8 (bytes_in 8 rec.counter)) 16
-    (bytes_in 8 (last_send_of rec))) 24 (bytes_in 8 (last_reading_of rec))) 32 (bytes_in 8 (open_lease_count rec)))
-    40
-    (bytes_of rec.sends))
-    552
-    (bytes_of rec.grants)
-    ≡ encoded rec
-unfolding encoded bytes_of
-record_put b rec size sends grants =
-    let one = bytes_in 8 rec.stopped in
-    let two = one ++ bytes_in 8 rec.counter in
-    let three = two ++ bytes_in 8 (last_send_of rec) in
-    let four = three ++ bytes_in 8 (last_reading_of rec) in
-    let five = four ++ bytes_in 8 (open_lease_count rec) in
-    let six = five ++ bytes_of rec.sends in
-    let long_one : length one ≡ 8 = bytes_length 8 rec.stopped in
-    let long_two : length two ≡ 16 = length-append one _ ∙ rw (long_one, bytes_length 8 rec.counter) refl in
-    let long_three : length three ≡ 24 = length-append two _ ∙ rw (long_two, bytes_length 8 (last_send_of rec)) refl in
-    let long_four : length four ≡ 32 = length-append three _ ∙ rw (long_three, bytes_length 8 (last_reading_of rec)) refl in
-    let long_five : length five ≡ 40 = length-append four _ ∙ rw (long_four, bytes_length 8 (open_lease_count rec)) refl in
-    let long_sends : length (bytes_of rec.sends) ≡ 512 = words_bytes_length rec.sends ∙ rw sends refl in
-    let long_grants : length (bytes_of rec.grants) ≡ 128 = words_bytes_length rec.grants ∙ rw grants refl in
-    let long_six : length six ≡ 552 = length-append five _ ∙ rw (long_five, long_sends) refl in
-    let all = six ++ bytes_of rec.grants in
-    let whole : length all ≡ length b = length-append six _ ∙ rw (long_six, long_grants, size) refl in
+pub parts_put : (b front sends grants : List ℕ) → length b ≡ 680 → length front ≡ 5 → length sends ≡ 64 → length grants ≡ 16
+    → put_at (put_at (put_at b 0 (bytes_of front)) 40 (bytes_of sends)) 552 (bytes_of grants)
+    ≡ bytes_of (front ++ (sends ++ grants))
+parts_put b front sends grants size five many few =
+    let one = bytes_of front in
+    let two = one ++ bytes_of sends in
+    let all = two ++ bytes_of grants in
+    let long_one : length one ≡ 40 = words_bytes_length front ∙ rw five refl in
+    let long_sends : length (bytes_of sends) ≡ 512 = words_bytes_length sends ∙ rw many refl in
+    let long_grants : length (bytes_of grants) ≡ 128 = words_bytes_length grants ∙ rw few refl in
+    let long_two : length two ≡ 552 = length-append one _ ∙ rw (long_one, long_sends) refl in
+    let whole : length all ≡ length b = length-append two _ ∙ rw (long_two, long_grants, size) refl in
     rw (
-      put_step b one (bytes_in 8 rec.counter) 8 long_one (omega (arith, bytes_length 8 rec.counter, size)),
-      put_step b two (bytes_in 8 (last_send_of rec)) 16 long_two (omega (arith, bytes_length 8 (last_send_of rec), size)),
-      put_step b three (bytes_in 8 (last_reading_of rec)) 24 long_three (omega (arith, bytes_length 8 (last_reading_of rec), size)),
-      put_step b four (bytes_in 8 (open_lease_count rec)) 32 long_four (omega (arith, bytes_length 8 (open_lease_count rec), size)),
-      put_step b five (bytes_of rec.sends) 40 long_five (omega (arith, long_sends, size)),
-      put_step b six (bytes_of rec.grants) 552 long_six (omega (arith, long_grants, size)),
+      put_step b one (bytes_of sends) 40 long_one (omega (arith, long_sends, size)),
+      put_step b two (bytes_of grants) 552 long_two (omega (arith, long_grants, size)),
       put_whole b all whole,
-      bytes_append rec.sends rec.grants,
+      bytes_append front (sends ++ grants),
+      bytes_append sends grants,
     )
-    (simp append_assoc)
+    (append_assoc one (bytes_of sends) (bytes_of grants))

@@ -1,4 +1,3 @@
--- What a buffer of 680 bytes holds, a word in bytes, and a record's parts in their places.
+-- What a buffer of 680 bytes holds, and a word in bytes.
 pub mod Held
 pub mod LowFirst
-pub mod Whole

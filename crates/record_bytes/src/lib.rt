@@ -67,7 +67,7 @@ fn put_words(b: &mut [u8], at: usize, words: &[u64])
     }
 }
 
-#[tactic(auto, using(crate::proofs::Whole::parts_put), unfolding(firmware_rules::specs::Bytes::encoded))]
+#[tactic(auto, using(firmware_rules::proofs::Words::parts_put), unfolding(firmware_rules::specs::Bytes::encoded))]
 fn encode(b: &mut [u8; RECORD_BYTES], rec: &Recorder)
     ensures { b.new ≡ encoded rec.now }
 {
