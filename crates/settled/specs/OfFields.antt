@@ -1,5 +1,5 @@
 -- Determinacy of the public functions of `fields` and `decimals`.
-use Rattle.std.specs.Prelude.{◌≡◌, refl}
+use Rattle.std.specs.Prelude.{◌≡◌, refl, option_copied}
 use Rattle.settled.specs.Settled.{Settled, SettledBy}
 use Rattle.decimals.specs.contracts.read_number as read_number
 use Rattle.decimals.specs.contracts.digit_count as digit_count
@@ -9,6 +9,7 @@ use Rattle.fields.specs.contracts.agreement as agreement
 use Rattle.fields.specs.contracts.starts as starts
 use Rattle.fields.specs.contracts.is_exactly as is_exactly
 use Rattle.fields.specs.contracts.part_from as part_from
+use Rattle.fields.specs.contracts.after as after
 
 pub record FieldsSettled : Type 0 where
   pub read_number : Settled read_number.ended (λ M 𝓤. read_number.clauses) refl
@@ -18,5 +19,6 @@ pub record FieldsSettled : Type 0 where
   pub agreement : Settled agreement.ended (λ M 𝓤. agreement.clauses) refl
   pub starts : Settled starts.ended (λ M 𝓤. starts.clauses) refl
   pub is_exactly : Settled is_exactly.ended (λ M 𝓤. is_exactly.clauses) refl
-  -- The result is a reference: settled are the bytes that it refers to. The contract does not say where they lie.
+  -- The results are references: settled are the bytes that they refer to. The contracts do not say where they lie.
   pub part_from : SettledBy part_from.ended (λ κs x x'. x.now ≡ x'.now) (λ M 𝓤. part_from.clauses) refl
+  pub after : SettledBy after.ended (λ κs x x'. option_copied x ≡ option_copied x') (λ M 𝓤. after.clauses) refl

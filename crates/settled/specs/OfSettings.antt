@@ -1,9 +1,10 @@
--- Determinacy of the public functions of `settings`, `quorums` and `messages`.
+-- Determinacy of the public functions of `refusals`, `settings`, `quorums` and `messages`.
 use Rattle.std.specs.Prelude.{refl}
 use Rattle.settled.specs.Settled.{Settled}
+use Rattle.refusals.specs.contracts.U32FromRefusal.from as number_from
 use Rattle.settings.specs.contracts.settings_of as settings_of
 use Rattle.settings.specs.contracts.slacks_of as slacks_of
-use Rattle.settings.specs.contracts.refusal as refusal
+use Rattle.settings.specs.contracts.accept as accept
 use Rattle.settings.specs.contracts.less as less
 use Rattle.settings.specs.contracts.round_window as round_window
 use Rattle.settings.specs.contracts.judge as judge
@@ -13,9 +14,10 @@ use Rattle.messages.specs.contracts.is_refusal as is_refusal
 use Rattle.messages.specs.contracts.bad_reading as bad_reading
 
 pub record SettingsSettled : Type 0 where
+  pub number_from : Settled number_from.ended (λ M 𝓤. number_from.clauses) refl
   pub settings_of : Settled settings_of.ended (λ M 𝓤. settings_of.clauses) refl
   pub slacks_of : Settled slacks_of.ended (λ M 𝓤. slacks_of.clauses) refl
-  pub refusal : Settled refusal.ended (λ M 𝓤. refusal.clauses) refl
+  pub accept : Settled accept.ended (λ M 𝓤. accept.clauses) refl
   pub less : Settled less.ended (λ M 𝓤. less.clauses) refl
   pub round_window : Settled round_window.ended (λ M 𝓤. round_window.clauses) refl
   pub judge : Settled judge.ended (λ M 𝓤. judge.clauses) refl

@@ -12,4 +12,5 @@ returns c = record {
   starts = λ _ _ _ _ _ _ p q. (p ∙ sym q, refl);
   is_exactly = λ _ _ _ _ _ _ p q. (p ∙ sym q, refl);
   part_from = λ _ _ _ _ _ _ p q. (p ∙ sym q, refl);
+  after = λ _ _ _ _ _ _ p q. (p ∙ sym q, refl);
 }

@@ -1,7 +1,7 @@
 -- The claims on `standby_form` and `standby`: what is asked of a record is given outright, the outcome of a step by what its
 -- answer says and by the record that it leaves.
 use Rattle.std.proofs.Common.{refl, sym, ◌∙◌}
-use Rattle.settled.proofs.Apart.{standby_apart}
+use Rattle.settled.proofs.Apart.{outcome_apart}
 use Rattle.settled.proofs.standby_settled.Goals as goal
 
 pub returns : goal.returns
@@ -9,5 +9,5 @@ returns c = record {
   is_dead = λ _ _ _ _ _ _ p q. (p ∙ sym q, refl);
   kept_marks = λ _ _ _ _ _ _ p q. (p ∙ sym q, refl);
   has_form = λ _ _ _ _ _ _ p q. (p ∙ sym q, refl);
-  step = λ _ _ _ _ _ _ p q. (standby_apart (p ∙ sym q), refl);
+  step = λ _ _ _ _ _ _ p q. (outcome_apart (p ∙ sym q), refl);
 }
