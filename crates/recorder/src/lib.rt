@@ -9,7 +9,7 @@ ghost use Rattle.words.specs.Said.{first};
 ghost use Rattle.refusals.specs.Refusals.{number_in};
 ghost use Rattle.messages.specs.Answers.{given};
 ghost use Rattle.messages.specs.Outcomes.{outcome, ◌leaving◌};
-ghost use Rattle.recorder_rules.specs.Recorder.{step_refusals, standing, tick_event, grant_event, refusals_of, event_of, step_of};
+ghost use Rattle.recorder_rules.specs.Recorder.{step_refusals, standing, due, tick_event, grant_event, refusals_of, event_of, step_of};
 ghost use Rattle.recorder.specs.Parts.{grant_lines, Roomy, Ready};
 
 use messages::{Answer, Message, Stepped, Word, bad_reading};
@@ -19,119 +19,134 @@ use recorder_rules::{Recorder, RecorderEvent};
 use refusals::Refusal;
 use settings::Settings;
 
-// Kept: settings, record and reading as three parameters: no plainer as one struct, since an event has another record than its step.
-
-// ---- Refusals
-
-// The table that every step has: refusals 1 to 4.
-#[tactic(auto, unfolding(words::specs::Said::first, settings::specs::Settings::refusal_of))]
-fn accept_step(s: Settings, rec: Recorder, reading: u64) -> Result<(), Refusal>
-    ensures { number_in result ≡ first (step_refusals s rec reading) }
-{
-    settings::accept(s)?;
-    if !has_form(s, rec) {
-        return Err(Refusal::NoForm);
-    }
-    if bad_reading(rec.last_reading, reading) {
-        return Err(Refusal::BadReading);
-    }
-    Ok(())
+// What every step is handed besides its event: the settings, the record, and the reading.
+#[derive(Clone, Copy)]
+struct Turn {
+    s: Settings,
+    rec: Recorder,
+    reading: u64,
 }
 
-// A grant's table goes on with refusals 5 and 6.
-#[tactic(auto, unfolding(words::specs::Said::first))]
-fn accept_grant(s: Settings, rec: Recorder, observer: u64, number: u64) -> Result<(), Refusal>
-    ensures { number_in result ≡ first (grant_lines s rec observer number) }
-{
-    if s.observers <= observer {
-        return Err(Refusal::NoSuchObserver);
-    }
-    if (number == 0) | (rec.counter < number) {
-        return Err(Refusal::BadCounter);
-    }
-    Ok(())
-}
+impl Turn {
+    // ---- Refusals
 
-fn accept(s: Settings, rec: Recorder, reading: u64, event: RecorderEvent) -> Result<(), Refusal>
-    ensures { number_in result ≡ first (refusals_of s rec reading event) }
-{
-    accept_step(s, rec, reading)?;
-    match event {
-        RecorderEvent::Grant(observer, number) => accept_grant(s, rec, observer, number),
-        RecorderEvent::Tick | RecorderEvent::Drive => Ok(()),
+    // The table that every step has: refusals 1 to 4.
+    #[tactic(auto, unfolding(words::specs::Said::first, settings::specs::Settings::refusal_of))]
+    fn accept_step(self) -> Result<(), Refusal>
+        ensures { number_in result ≡ first (step_refusals self.s self.rec self.reading) }
+    {
+        settings::accept(self.s)?;
+        if !has_form(self.s, self.rec) {
+            return Err(Refusal::NoForm);
+        }
+        if bad_reading(self.rec.last_reading, self.reading) {
+            return Err(Refusal::BadReading);
+        }
+        Ok(())
     }
-}
 
-// ---- Events
-
-// The word where no message is sent: rule 3.11.
-#[tactic(auto, unfolding(messages::specs::Answers::given, messages::specs::Answers::words_of, recorder_rules::specs::Recorder::standing, recorder_rules::specs::Recorder::registered))]
-fn word_of(s: Settings, rec: Recorder) -> Answer
-    ensures { given result ≡ standing s rec }
-{
-    if is_granted_above(s, rec, 0) {
-        Answer::Say(Word::Running)
-    } else {
-        Answer::Say(Word::Unregistered)
+    // A grant's table goes on with refusals 5 and 6.
+    #[tactic(auto, unfolding(words::specs::Said::first))]
+    fn accept_grant(self, observer: u64, number: u64) -> Result<(), Refusal>
+        ensures { number_in result ≡ first (grant_lines self.s self.rec observer number) }
+    {
+        if self.s.observers <= observer {
+            return Err(Refusal::NoSuchObserver);
+        }
+        if (number == 0) | (self.rec.counter < number) {
+            return Err(Refusal::BadCounter);
+        }
+        Ok(())
     }
-}
 
-// No message is sent, and the record stays as it is: all that a drive does.
-#[tactic(auto, unfolding(messages::specs::Answers::said))]
-fn stand(s: Settings, rec: Recorder) -> Stepped<Recorder>
-    ensures { outcome result ≡ (standing s rec leaving rec) }
-{
-    Stepped {
-        answer: Ok(word_of(s, rec)),
-        rec,
+    fn accept(self, event: RecorderEvent) -> Result<(), Refusal>
+        ensures { number_in result ≡ first (refusals_of self.s self.rec self.reading event) }
+    {
+        self.accept_step()?;
+        match event {
+            RecorderEvent::Grant(observer, number) => self.accept_grant(observer, number),
+            RecorderEvent::Tick | RecorderEvent::Drive => Ok(()),
+        }
     }
-}
 
-// Tick: rule 3.8. There is a place for the new lease, since no more than 63 can be open when it is due.
-#[tactic(auto, unfolding(recorder_rules::specs::Recorder::tick_event, messages::specs::Answers::said, messages::specs::Answers::given))]
-fn tick_event(s: Settings, rec: Recorder, reading: u64) -> Stepped<Recorder>
-    requires { Roomy s rec reading }
-    ensures { outcome result ≡ tick_event s reading rec }
-{
-    if (rec.counter == 0) | (s.interval <= reading.saturating_sub(rec.last_send)) {
-        let newest = rec.open_leases as usize;
-        let mut asked = rec;
-        asked.counter = rec.counter + 1;
-        asked.last_send = reading;
-        asked.open_leases = rec.open_leases + 1;
-        asked.sends[newest] = reading;
+    // ---- Events
+
+    // The word where no message is sent: rule 3.11.
+    #[tactic(auto, unfolding(messages::specs::Answers::given, messages::specs::Answers::words_of, recorder_rules::specs::Recorder::standing, recorder_rules::specs::Recorder::registered))]
+    fn answer(self) -> Answer
+        ensures { given result ≡ standing self.s self.rec }
+    {
+        if is_granted_above(self.s, self.rec, 0) {
+            Answer::Say(Word::Running)
+        } else {
+            Answer::Say(Word::Unregistered)
+        }
+    }
+
+    // No message is sent, and the record stays as it is: all that a drive does.
+    #[tactic(auto, unfolding(messages::specs::Answers::said))]
+    fn stand(self) -> Stepped<Recorder>
+        ensures { outcome result ≡ (standing self.s self.rec leaving self.rec) }
+    {
         Stepped {
-            answer: Ok(Answer::Send(Message::LeaseRequest(rec.counter + 1))),
+            answer: Ok(self.answer()),
+            rec: self.rec,
+        }
+    }
+
+    // Is a lease request due at this tick?
+    fn is_due(self) -> bool
+        ensures { result ≡ due self.s self.rec self.reading }
+    {
+        (self.rec.counter == 0)
+            | (self.s.interval <= self.reading.saturating_sub(self.rec.last_send))
+    }
+
+    // Tick: rule 3.8. There is a place for the new lease, since no more than 63 can be open when it is due.
+    #[tactic(auto, unfolding(recorder_rules::specs::Recorder::tick_event, messages::specs::Answers::said, messages::specs::Answers::given))]
+    fn tick(self) -> Stepped<Recorder>
+        requires { Roomy self.s self.rec self.reading }
+        ensures { outcome result ≡ tick_event self.s self.reading self.rec }
+    {
+        if !self.is_due() {
+            return self.stand();
+        }
+        let newest = self.rec.open_leases as usize;
+        let mut asked = self.rec;
+        asked.counter = self.rec.counter + 1;
+        asked.last_send = self.reading;
+        asked.open_leases = self.rec.open_leases + 1;
+        asked.sends[newest] = self.reading;
+        Stepped {
+            answer: Ok(Answer::Send(Message::LeaseRequest(asked.counter))),
             rec: asked,
         }
-    } else {
-        stand(s, rec)
     }
-}
 
-// Grant: rule 3.9.
-#[tactic(auto, unfolding(recorder_rules::specs::Recorder::grant_event))]
-fn grant_event(s: Settings, rec: Recorder, observer: u64, number: u64) -> Stepped<Recorder>
-    requires { observer < most_observers }
-    ensures { outcome result ≡ grant_event s observer number rec }
-{
-    let place = observer as usize;
-    let mut raised = rec;
-    raised.grants[place] = rec.grants[place].max(number);
-    stand(s, raised)
-}
+    // Grant: rule 3.9.
+    #[tactic(auto, unfolding(recorder_rules::specs::Recorder::grant_event))]
+    fn grant(self, observer: u64, number: u64) -> Stepped<Recorder>
+        requires { observer < most_observers }
+        ensures { outcome result ≡ grant_event self.s observer number self.rec }
+    {
+        let place = observer as usize;
+        let mut raised = self;
+        raised.rec.grants[place] = self.rec.grants[place].max(number);
+        raised.stand()
+    }
 
-// What the event does with the record at it, once the ended leases are gone. An accepted grant has its place.
-// Kept: a match, no plainer otherwise, because each event's function takes arguments of its own.
-#[tactic(auto, unfolding(recorder_rules::specs::Recorder::drive_event))]
-fn event_of(s: Settings, rec: Recorder, reading: u64, event: RecorderEvent) -> Stepped<Recorder>
-    requires { Ready s rec reading event }
-    ensures { outcome result ≡ event_of s reading event rec }
-{
-    match event {
-        RecorderEvent::Tick => tick_event(s, rec, reading),
-        RecorderEvent::Grant(observer, number) => grant_event(s, rec, observer, number),
-        RecorderEvent::Drive => stand(s, rec),
+    // What the event does with the record at it, once the ended leases are gone. An accepted grant has its place.
+    // Kept: a match, no plainer otherwise, because each event's method takes arguments of its own.
+    #[tactic(auto, unfolding(recorder_rules::specs::Recorder::drive_event))]
+    fn perform(self, event: RecorderEvent) -> Stepped<Recorder>
+        requires { Ready self.s self.rec self.reading event }
+        ensures { outcome result ≡ event_of self.s self.reading event self.rec }
+    {
+        match event {
+            RecorderEvent::Tick => self.tick(),
+            RecorderEvent::Grant(observer, number) => self.grant(observer, number),
+            RecorderEvent::Drive => self.stand(),
+        }
     }
 }
 
@@ -141,17 +156,18 @@ fn event_of(s: Settings, rec: Recorder, reading: u64, event: RecorderEvent) -> S
 pub fn step(s: Settings, rec: Recorder, reading: u64, event: RecorderEvent) -> Stepped<Recorder>
     ensures { outcome result ≡ step_of s rec reading event }
 {
-    if let Err(refusal) = accept(s, rec, reading, event) {
+    let turn = Turn { s, rec, reading };
+    if let Err(refusal) = turn.accept(event) {
         return Stepped {
             answer: Err(refusal),
             rec,
         };
     }
     match advance(s, rec, reading) {
-        Advanced::GoesOn(going_on) => event_of(s, going_on, reading, event),
-        Advanced::Stopped(halted) => Stepped {
+        Advanced::GoesOn(rec) => Turn { rec, ..turn }.perform(event),
+        Advanced::Stopped(rec) => Stepped {
             answer: Ok(Answer::Say(Word::Stopped)),
-            rec: halted,
+            rec,
         },
     }
 }

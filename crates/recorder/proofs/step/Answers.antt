@@ -31,8 +31,8 @@ ready s rec r (Grant x j) e has-size =
     omega (arith, (allowed_grant s rec r x j e).0)
 ready s rec r Drive e has-size = tt
 
-pub event_of-requires : goal.event_of-requires
-event_of-requires c =
+pub perform-requires : goal.perform-requires
+perform-requires c =
     rw (goes_on_lem _ _ _ c.in-GoesOn.ensures)
     (ready _ _ _ c.args.event (sym c.in_default.ensures) (sized _ _ c.well_formed.1.0))
 
@@ -42,7 +42,7 @@ returns-in-GoesOn c =
     let a = c.args in
     sym (by_advance a.s a.rec a.reading (refusals_of a.s a.rec a.reading a.event) (sym c.in_default.ensures)
     (event_of a.s a.reading a.event)
-    ∙ rw (← c.in-GoesOn.ensures, ← c.event_of.ensures))
+    ∙ rw (← c.in-GoesOn.ensures, ← c.perform.ensures))
 
 pub returns-in-Stopped : goal.returns-in-Stopped
 unfolding step_of said given words_of

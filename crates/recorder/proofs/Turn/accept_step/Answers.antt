@@ -1,5 +1,5 @@
--- `recorder::accept_step` meets its contract: the settings' table stands first, and where it refuses nothing the record and the
--- reading are looked at.
+-- `recorder::Turn::accept_step` meets its contract: the settings' table stands first, and where it refuses nothing the record
+-- and the reading are looked at.
 use Prim.Native.Nat.{ℕ}
 use mathlib.Core.Path.{◌≡◌, refl}
 use mathlib.Core.Bool.{not}
@@ -13,7 +13,7 @@ use Rattle.settings.specs.Settings.{refusals, refusal_of}
 use Rattle.messages.specs.Outcomes.{bad_reading}
 use Rattle.recorder_rules.specs.declared.Recorder.{Recorder}
 use Rattle.recorder_rules.specs.Recorder.{last_reading_of, has_form, step_refusals}
-use Rattle.recorder.proofs.accept_step.Goals as goal
+use Rattle.recorder.proofs.Turn.accept_step.Goals as goal
 
 -- the lines of the record and of the reading
 abbrev lines : Settings → Recorder → (reading : ℕ) → List Refusal
@@ -27,14 +27,17 @@ goes_on s rec reading none = first_goes_on (refusals s) (lines s rec reading) re
 pub returns-in_err-accept : goal.returns-in_err-accept
 unfolding refusal_of
 returns-in_err-accept c =
-    search (rules, first_stays (refusals c.args.s) (lines c.args.s c.args.rec c.args.reading) refl c.in_err-accept.ensures (some_number _))
+    let a = c.args.self in
+    search (rules, first_stays (refusals a.s) (lines a.s a.rec a.reading) refl c.in_err-accept.ensures (some_number _))
 
 pub returns-then-not-has_form : goal.returns-then-not-has_form
 unfolding first
 returns-then-not-has_form c =
-    rw (goes_on c.args.s c.args.rec c.args.reading c.in_ok-accept.ensures, ← c.has_form.ensures, c.if-not-has_form.true)
+    let a = c.args.self in
+    rw (goes_on a.s a.rec a.reading c.in_ok-accept.ensures, ← c.has_form.ensures, c.if-not-has_form.true)
 
 pub returns-then-bad_reading : goal.returns-then-bad_reading
 unfolding first
 returns-then-bad_reading c =
-    rw (goes_on c.args.s c.args.rec c.args.reading c.in_ok-accept.ensures, ← c.has_form.ensures, c.if-not-has_form.false, ← c.bad_reading.ensures, c.if-bad_reading.true)
+    let a = c.args.self in
+    rw (goes_on a.s a.rec a.reading c.in_ok-accept.ensures, ← c.has_form.ensures, c.if-not-has_form.false, ← c.bad_reading.ensures, c.if-bad_reading.true)

@@ -1,4 +1,4 @@
--- `recorder::accept` meets its contract: the table of every step stands first, and a grant's goes on.
+-- `recorder::Turn::accept` meets its contract: the table of every step stands first, and a grant's goes on.
 use Prim.Native.Nat.{ℕ}
 use mathlib.Core.Path.{◌≡◌, refl, sym, ◌∙◌}
 use Rattle.std.proofs.Common.{rules}
@@ -11,7 +11,7 @@ use Rattle.recorder_rules.specs.declared.RecorderEvent.{RecorderEvent}
 use Rattle.recorder_rules.specs.declared.RecorderEvent.TheVariants.{Tick, Grant, Drive}
 use Rattle.recorder_rules.specs.Recorder.{step_refusals, refusals_of}
 use Rattle.recorder.specs.Parts.{grant_lines}
-use Rattle.recorder.proofs.accept.Goals as goal
+use Rattle.recorder.proofs.Turn.accept.Goals as goal
 
 stays : (s : Settings) (rec : Recorder) (reading : ℕ) (event : RecorderEvent) {k : ℕ} → k ≡ first (step_refusals s rec reading)
     → (k ≡ 0 → ⊥) → k ≡ first (refusals_of s rec reading event)
@@ -21,14 +21,16 @@ stays s rec reading Drive e given = e
 
 pub returns-in_err-accept_step : goal.returns-in_err-accept_step
 returns-in_err-accept_step c =
-    search (rules, stays c.args.s c.args.rec c.args.reading c.args.event c.in_err-accept_step.ensures (some_number _))
+    let a = c.args.self in
+    search (rules, stays a.s a.rec a.reading c.args.event c.in_err-accept_step.ensures (some_number _))
 
 pub returns-in-Grant : goal.returns-in-Grant
 returns-in-Grant c =
+    let a = c.args.self in
     rw c.in-Grant.is
     (c.accept_grant.ensures
-    ∙ sym (first_goes_on (step_refusals c.args.s c.args.rec c.args.reading)
-    (grant_lines c.args.s c.args.rec c.in-Grant.observer c.in-Grant.number)
+    ∙ sym (first_goes_on (step_refusals a.s a.rec a.reading)
+    (grant_lines a.s a.rec c.in-Grant.observer c.in-Grant.number)
     refl
     c.in_ok-accept_step.ensures
     refl))
