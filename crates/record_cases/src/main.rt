@@ -22,75 +22,33 @@ mod lines_alone;
 mod rack;
 mod show;
 
-ghost use Rattle.std.specs.Prelude.{◌≤◌, ◌≡◌, length};
-
-use fields::starts;
 use rack::Rack;
-use streams::{Input, read_input};
+use streams::read_input;
 
-// The length of the line at the front, its line feed counted.
-fn line_length(s: &[u8]) -> usize
-    ensures { result ≤ length s.now }
-{
-    let mut i: usize = 0;
-    while i < s.len() {
-        if s[i] == 10 {
-            return i + 1;
-        }
-        i += 1;
+// What the line does, by its first letter: it shows something, or changes the rack.
+// Kept: no plainer, because a line's letter is all that says what it does.
+fn perform(rt: &impl Print, held: &mut Rack, line: &[u8]) {
+    match line.first() {
+        Some(b'#') => show::text(rt, line),
+        Some(b'<') => lines_alone::read(rt, line),
+        Some(b'w') => lines_alone::write(rt, rack::numbers(line)),
+        Some(b'S') => act::settle(rt, held, line),
+        Some(b'R' | b'O' | b'Q') => act::step(rt, held, line),
+        _ => rack::set(rt, held, line),
     }
-    i
-}
-
-// What the line does: it shows something, or changes the rack.
-fn perform(rt: &impl Print, held: Rack, line: &[u8]) -> Rack {
-    if starts(line, b"#") {
-        show::text(rt, line);
-        return held;
-    }
-    if starts(line, b"<") {
-        lines_alone::read(rt, line);
-        return held;
-    }
-    if starts(line, b"w") {
-        lines_alone::write(rt, rack::numbers(line));
-        return held;
-    }
-    if starts(line, b"S") {
-        return act::settle(rt, held, line);
-    }
-    if starts(line, b"R") | starts(line, b"O") | starts(line, b"Q") {
-        return act::step(rt, held, line);
-    }
-    rack::with(rt, held, line)
 }
 
 fn run(rt: &impl Print, input: &[u8]) {
-    let mut held = rack::fresh();
-    let mut at: usize = 0;
-    while at < input.len() {
-        let rest = &input[at..];
-        let count = line_length(rest);
-        if count == 0 {
-            return;
-        }
-        held = perform(rt, held, &rest[..count]);
-        at += count;
+    let mut held = Rack::default();
+    for line in input.split_inclusive(|byte| *byte == b'\n') {
+        perform(rt, &mut held, line);
     }
 }
 
-// Room for the cases.
-fn input_room() -> [u8; 65536]
-    ensures { 65536 ≡ length result }
-{
-    [0; 65536]
-}
-
 fn main(rt: HostRuntime) {
-    let mut room = input_room();
-    let input = read_input(&rt, b"record_cases", &mut room);
-    match input {
-        Input::Read(count) => run(&rt, &room[..count]),
-        Input::Failed => {}
+    // Kept: a room beside its count: fixed memory, no heap.
+    let mut room = [0; 65536];
+    if let Ok(count) = read_input(&rt, b"record_cases", &mut room) {
+        run(&rt, &room[..count]);
     }
 }

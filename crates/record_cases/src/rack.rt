@@ -1,12 +1,12 @@
 // The settings and records that the cases hand in, and the lines that set them.
-use crate::show;
-use decimals::{Number, read_number};
-use fields::{part_from, starts};
+use crate::show::Record;
+use decimals::read_number;
+use fields::part_from;
 use messages::Status;
 use observer_rules::Observer;
 use recorder_rules::Recorder;
 use settings::{MOST_LEASES, MOST_OBSERVERS, Settings, settings_of};
-use standby_rules::{Place, Standby};
+use standby_rules::{Place, Standby, UNUSED};
 
 #[derive(Clone, Copy)]
 pub struct Rack {
@@ -23,24 +23,13 @@ struct Taken {
     behind: usize,
 }
 
-// Places and counts are below 65,536 in every input, so the sum does not wrap.
-fn place_behind(at: usize, count: usize) -> usize {
-    if at < 65536 {
-        if count < 65536 {
-            return at + count + 1;
-        }
-    }
-    at
-}
-
 fn number_at(line: &[u8], at: usize) -> Taken {
-    let number = read_number(part_from(line, at), true, 18446744073709551615);
-    match number {
-        Number::Value(value, count) => Taken {
-            value,
-            behind: place_behind(at, count),
+    match read_number(part_from(line, at), true, u64::MAX) {
+        Ok(number) => Taken {
+            value: number.value,
+            behind: at.saturating_add(number.length).saturating_add(1),
         },
-        Number::Bad(_) => Taken {
+        Err(_) => Taken {
             value: 0,
             behind: at,
         },
@@ -48,17 +37,19 @@ fn number_at(line: &[u8], at: usize) -> Taken {
 }
 
 // The numbers behind the line's letter, each behind one tab; 0 for one that is not there.
+// Kept: an array that is filled: fixed memory, no heap.
 pub fn numbers(line: &[u8]) -> [u64; 7] {
-    let mut found = [0u64; 7];
+    let mut found = [0; 7];
     let mut at: usize = 2;
-    for k in 0..7 {
+    for number in &mut found {
         let taken = number_at(line, at);
-        found[k] = taken.value;
+        *number = taken.value;
         at = taken.behind;
     }
     found
 }
 
+// Kept: a record's places are arrays: the C interface, and fixed memory.
 fn recorder_of(v: [u64; 7]) -> Recorder {
     Recorder {
         stopped: v[0],
@@ -79,112 +70,67 @@ fn observer_of(v: [u64; 7]) -> Observer {
     }
 }
 
-fn place_of(kept: u64, counter: u64, dead: u64) -> Place {
-    let status = if dead == 1 {
+pub fn status_of(number: u64) -> Status {
+    if number == 1 {
         Status::Dead
     } else {
         Status::Alive
-    };
-    Place {
-        kept: kept == 1,
-        counter,
-        status,
     }
 }
 
+fn place_of(kept: u64, counter: u64, dead: u64) -> Place {
+    Place {
+        kept: kept == 1,
+        counter,
+        status: status_of(dead),
+    }
+}
+
+// Kept: a record's places are an array: fixed memory, no heap.
 fn standby_of(v: [u64; 7]) -> Standby {
-    let unused = place_of(0, 0, 0);
     Standby {
         open_flag: v[0] == 1,
         ts: v[1],
         last_reading: v[2],
-        places: [unused; MOST_OBSERVERS],
+        places: [UNUSED; MOST_OBSERVERS],
     }
 }
 
-pub fn fresh() -> Rack {
-    let none = [0u64; 7];
-    Rack {
-        settings: settings_of([3, 2, 100, 40, 159, 235, 10]),
-        recorder: recorder_of(none),
-        observer: observer_of(none),
-        standby: standby_of(none),
+// What the cases begin with.
+impl Default for Rack {
+    fn default() -> Rack {
+        Rack {
+            settings: settings_of([3, 2, 100, 40, 159, 235, 10]),
+            recorder: recorder_of([0; 7]),
+            observer: observer_of([0; 7]),
+            standby: standby_of([0; 7]),
+        }
     }
 }
 
-fn with_send(rec: Recorder, place: u64, value: u64) -> Recorder {
-    let mut next = rec;
-    if place < MOST_LEASES as u64 {
-        next.sends[place as usize] = value;
+// Stores a value at a place of a row. A place that the row does not have changes nothing.
+fn store<T: Copy, const N: usize>(row: &mut [T; N], place: u64, value: T) {
+    let place = place as usize;
+    if place < N {
+        row[place] = value;
     }
-    next
 }
 
-fn with_grant(rec: Recorder, place: u64, value: u64) -> Recorder {
-    let mut next = rec;
-    if place < MOST_OBSERVERS as u64 {
-        next.grants[place as usize] = value;
-    }
-    next
-}
-
-fn with_place(q: Standby, v: [u64; 7]) -> Standby {
-    let place = v[0];
-    let set = place_of(v[1], v[2], v[3]);
-    let mut next = q;
-    if place < MOST_OBSERVERS as u64 {
-        next.places[place as usize] = set;
-    }
-    next
-}
-
-// The recorder's record as the line sets it.
-fn recorder_with(rec: Recorder, line: &[u8]) -> Recorder {
+// Does what a line that sets a record, or a part of one, says.
+// Kept: no plainer, because a line's letter is all that says what it does.
+pub fn set(rt: &impl Print, held: &mut Rack, line: &[u8]) {
     let v = numbers(line);
-    if starts(line, b"r") {
-        return recorder_of(v);
-    }
-    if starts(line, b"s") {
-        return with_send(rec, v[0], v[1]);
-    }
-    if starts(line, b"g") {
-        return with_grant(rec, v[0], v[1]);
-    }
-    rec
-}
-
-fn observer_with(rt: &impl Print, o: Observer, line: &[u8]) -> Observer {
-    if starts(line, b"o") {
-        return observer_of(numbers(line));
-    }
-    if starts(line, b"z") {
-        let left = observer::restart(o);
-        show::observer(rt, left);
-        return left;
-    }
-    o
-}
-
-fn standby_with(q: Standby, line: &[u8]) -> Standby {
-    if starts(line, b"q") {
-        return standby_of(numbers(line));
-    }
-    if starts(line, b"p") {
-        return with_place(q, numbers(line));
-    }
-    q
-}
-
-// The rack as a line that sets a record leaves it.
-pub fn with(rt: &impl Print, held: Rack, line: &[u8]) -> Rack {
-    let settings = held.settings;
-    let rec = held.recorder;
-    let o = held.observer;
-    let q = held.standby;
-    Rack {
-        settings,
-        recorder: recorder_with(rec, line),
-        observer: observer_with(rt, o, line),
-        standby: standby_with(q, line),
+    match line.first() {
+        Some(b'r') => held.recorder = recorder_of(v),
+        Some(b's') => store(&mut held.recorder.sends, v[0], v[1]),
+        Some(b'g') => store(&mut held.recorder.grants, v[0], v[1]),
+        Some(b'o') => held.observer = observer_of(v),
+        Some(b'z') => {
+            held.observer = observer::restart(held.observer);
+            held.observer.show(rt);
+        }
+        Some(b'q') => held.standby = standby_of(v),
+        Some(b'p') => store(&mut held.standby.places, v[0], place_of(v[1], v[2], v[3])),
+        _ => {}
     }
 }
