@@ -9,7 +9,7 @@ ghost use Rattle.refusals.specs.Refusals.{number_in};
 ghost use Rattle.settings.specs.Settings.{most_observers, window, refusals};
 ghost use Rattle.messages.specs.Answers.{speaks, words_of, says};
 ghost use Rattle.messages.specs.Outcomes.{◌leaving◌, outcome};
-ghost use Rattle.standby_rules.specs.Standby.{has_form, no_places, closed, at_reading, says_dead, verdict, begin_refusals, ack_refusals, poll_refusals, is_late, after_keeping, begin_event, ack_event, poll_event, refusals_of, event_within, step_of};
+ghost use Rattle.standby_rules.specs.Standby.{has_form, closed, at_reading, says_dead, verdict, begin_refusals, ack_refusals, poll_refusals, is_late, after_keeping, begin_event, ack_event, poll_event, refusals_of, event_within, step_of};
 ghost use Rattle.standby.specs.Parts.{Ready, greatest_by_chain};
 
 use messages::{Answer, Message, Status, Stepped, TOP_COUNTER, TOP_READING, Word, bad_reading};
@@ -18,12 +18,6 @@ use settings::{MOST_OBSERVERS, Settings};
 use standby_form::{has_form, kept_marks};
 use standby_rules::{Place, Standby, StandbyEvent, UNUSED};
 
-fn no_places() -> [Place; MOST_OBSERVERS]
-    ensures { result ≡ no_places }
-{
-    [UNUSED; MOST_OBSERVERS]
-}
-
 fn closed_round(reading: u64) -> Standby
     ensures { result ≡ closed reading }
 {
@@ -31,7 +25,8 @@ fn closed_round(reading: u64) -> Standby
         open_flag: false,
         ts: 0,
         last_reading: reading,
-        places: no_places(),
+        // Kept: as many places as there can be observers: fixed memory.
+        places: [UNUSED; MOST_OBSERVERS],
     }
 }
 
@@ -55,6 +50,7 @@ fn some_dead(places: [Place; MOST_OBSERVERS], m: u64) -> bool
 }
 
 // The verdict at a quorum: the greatest counter decides, never a count of statuses.
+// Kept: a match, since it chooses a word by m and by a test, not a function by a kind.
 #[tactic(auto, using(crate::proofs::Greatest::chain_is_greatest), unfolding(standby_rules::specs::Standby::verdict, messages::specs::Answers::words_of))]
 fn judge(places: [Place; MOST_OBSERVERS]) -> Word
     ensures { speaks (words_of result) ≡ verdict places }
@@ -143,6 +139,7 @@ impl Turn {
         Ok(())
     }
 
+    // Kept: a match of its own beside `perform`'s, no plainer as one, because rule 2.2 puts every refusal before any event.
     fn accept(self, event: StandbyEvent) -> Result<(), Refusal>
         ensures { number_in result ≡ first (refusals_of self.s self.q self.reading event) }
     {
@@ -205,8 +202,7 @@ impl Turn {
             rec: Standby {
                 open_flag: true,
                 ts: self.reading,
-                last_reading: self.reading,
-                places: no_places(),
+                ..closed_round(self.reading)
             },
         }
     }
@@ -246,6 +242,7 @@ impl Turn {
     }
 
     // What an accepted event does.
+    // Kept: a match of its own beside `accept`'s, as said there.
     fn perform(self, event: StandbyEvent) -> Stepped<Standby>
         requires { Ready event }
         ensures { outcome result ≡ event_within (window self.s) self.s self.q self.reading event }

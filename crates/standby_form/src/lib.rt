@@ -45,6 +45,7 @@ fn unused_from(places: [Place; MOST_OBSERVERS], start: usize) -> bool
 }
 
 // The observers whose acks are kept.
+// Kept: an array of marks by number, which `quorums` takes: fixed memory.
 pub fn kept_marks(places: [Place; MOST_OBSERVERS]) -> [bool; MOST_OBSERVERS]
     ensures { result ≡ kept_marks places }
 {
