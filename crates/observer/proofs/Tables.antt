@@ -2,7 +2,6 @@
 -- that of both, and where the first accepts the second decides.
 use Rattle.std.specs.Prelude.{if◌then◌else◌}
 use Prim.Native.Nat.{ℕ}
-use native.Mathlib.Omega.{arith}
 use mathlib.Core.Path.{◌≡◌, refl, sym}
 use mathlib.Core.Bool.{Bool, true, not, ◌||◌}
 use mathlib.Core.List.{List, [], ◌∷◌, ◌++◌}
@@ -11,27 +10,14 @@ use Rattle.words.specs.Lists.{every}
 use Rattle.words.specs.Said.{Refusal as Line, first, ◌when◌}
 use Rattle.words.proofs.Said.{first_stays, first_goes_on}
 use Rattle.refusals.specs.declared.Refusal.{Refusal}
-use Rattle.refusals.specs.declared.Refusal.TheVariants.{OutOfRange, NegativeSlack, NoForm, BadReading, NoSuchObserver, BadCounter, NoRound, OtherRound, BadLine, WrongRoom}
 use Rattle.refusals.specs.Refusals.{number_of}
+use Rattle.refusals.proofs.Apart.{some_number}
 use Rattle.settings.specs.declared.Settings.{Settings}
 use Rattle.settings.specs.Settings.{n, refusals, refusal_of}
 use Rattle.messages.specs.Messages.{top_counter}
 use Rattle.messages.specs.Outcomes.{bad_reading}
 use Rattle.observer_rules.specs.declared.Observer.{Observer}
 use Rattle.observer_rules.specs.Observer.{has_form, last_reading_of, shared_refusals, request_refusals, cut_refusals}
-
--- 0 is no refusal's number
-pub some_number : (r : Refusal) → number_of r ≡ 0 → ⊥
-some_number OutOfRange e = omega arith
-some_number NegativeSlack e = omega arith
-some_number NoForm e = omega arith
-some_number BadReading e = omega arith
-some_number NoSuchObserver e = omega arith
-some_number BadCounter e = omega arith
-some_number NoRound e = omega arith
-some_number OtherRound e = omega arith
-some_number BadLine e = omega arith
-some_number WrongRoom e = omega arith
 
 module _ (rs later : List Line) (numbered : every (λ r. 0 <? r.no) rs ≡ true) where
   pub refused_before : (r : Refusal) → number_of r ≡ first rs → number_of r ≡ first (rs ++ later)

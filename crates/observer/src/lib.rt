@@ -29,7 +29,7 @@ pub struct Plan {
     pub last_reading: u64,
 }
 
-// ---- Refusals
+// ---- Parts of a step
 
 // Does the record have the form (rule 4.2)? The settings are in range, so the greatest deadline does not wrap.
 #[tactic(auto, unfolding(observer_rules::specs::Observer::has_form, observer_rules::specs::Observer::form))]
@@ -44,119 +44,6 @@ fn has_form(s: Settings, o: Observer) -> bool
         & ((o.deadline == 0) | deadline_fits)
         & ((o.deadline != 0) | (o.latest == 0))
         & (o.last_reading <= messages::TOP_READING)
-}
-
-// Kept: s, o, x and reading stay four parameters: no plainer, because each clause would take a struct of them apart again.
-
-// The refusals that all steps share, the lowest first; 4 has its condition handed in.
-#[tactic(auto, using(crate::proofs::Tables::shared_refused, crate::proofs::Tables::shared_decide, settings::proofs::Laws::accepted_in_range), unfolding(words::specs::Said::first))]
-fn accept_shared(s: Settings, o: Observer, x: u64, bad: bool) -> Result<(), Refusal>
-    ensures { number_in result ≡ first (shared_refusals s o x bad) }
-{
-    settings::accept(s)?;
-    if !has_form(s, o) {
-        return Err(Refusal::NoForm);
-    }
-    if bad {
-        return Err(Refusal::BadReading);
-    }
-    if s.observers <= x {
-        return Err(Refusal::NoSuchObserver);
-    }
-    Ok(())
-}
-
-// 6 comes behind them.
-#[tactic(auto, using(crate::proofs::Tables::request_refused, crate::proofs::Tables::request_decides))]
-fn accept_request(
-    s: Settings,
-    o: Observer,
-    x: u64,
-    reading: u64,
-    counter: u64,
-) -> Result<(), Refusal>
-    ensures { number_in result ≡ first (request_refusals s o x reading counter) }
-{
-    accept_shared(s, o, x, bad_reading(o.last_reading, reading))?;
-    if (counter == 0) | (messages::TOP_COUNTER < counter) {
-        return Err(Refusal::BadCounter);
-    }
-    Ok(())
-}
-
-// A cut is a request that is cut, after two stores at most.
-#[tactic(auto, using(crate::proofs::Tables::cut_refused, crate::proofs::Tables::cut_decides), unfolding(words::specs::Said::first))]
-fn accept_cut(
-    s: Settings,
-    o: Observer,
-    x: u64,
-    reading: u64,
-    counter: u64,
-    stores: u64,
-) -> Result<(), Refusal>
-    ensures { number_in result ≡ first (cut_refusals s o x reading counter stores) }
-{
-    accept_request(s, o, x, reading, counter)?;
-    if 2 < stores {
-        return Err(Refusal::BadLine);
-    }
-    Ok(())
-}
-
-// Of a check, 4 covers the ts too.
-fn accept_check(s: Settings, o: Observer, x: u64, reading: u64, ts: u64) -> Result<(), Refusal>
-    ensures { number_in result ≡ first (check_refusals s o x reading ts) }
-{
-    let bad = bad_reading(o.last_reading, reading) | (messages::TOP_READING < ts);
-    accept_shared(s, o, x, bad)
-}
-
-fn accept(
-    s: Settings,
-    o: Observer,
-    x: u64,
-    reading: u64,
-    event: ObserverEvent,
-) -> Result<(), Refusal>
-    ensures { number_in result ≡ first (refusals_of s o x reading event) }
-{
-    match event {
-        ObserverEvent::Request(counter) => accept_request(s, o, x, reading, counter),
-        ObserverEvent::Cut(counter, stores) => accept_cut(s, o, x, reading, counter, stores),
-        ObserverEvent::Check(ts) => accept_check(s, o, x, reading, ts),
-    }
-}
-
-// ---- What an accepted step is to do
-
-// Dead from the deadline on (rule 4.7).
-#[tactic(auto, unfolding(observer_rules::specs::Observer::status_at))]
-fn status_at(o: Observer, reading: u64) -> Status
-    ensures { result ≡ status_at o reading }
-{
-    if reading < o.deadline {
-        Status::Alive
-    } else {
-        Status::Dead
-    }
-}
-
-// A request is granted, or met with silence; a cut sends nothing; a check is told what the observer has seen.
-#[tactic(auto, unfolding(observer_rules::specs::Observer::answer_of, messages::specs::Answers::given, messages::specs::Answers::words_of))]
-fn answer_of(o: Observer, reading: u64, event: ObserverEvent) -> Answer
-    ensures { given result ≡ answer_of o reading event }
-{
-    match event {
-        ObserverEvent::Request(counter) if o.latest < counter => {
-            Answer::Send(Message::LeaseGrant(counter))
-        }
-        ObserverEvent::Request(_) => Answer::Say(Word::Silent),
-        ObserverEvent::Cut(_, _) => Answer::Say(Word::Cut),
-        ObserverEvent::Check(ts) => {
-            let status = status_at(o, reading);
-            Answer::Send(Message::CheckAck(ts, o.latest, status))
-        }
-    }
 }
 
 // Of a request that would be silent there is nothing to store, and so nothing to cut (rules 4.4, 4.6).
@@ -192,8 +79,122 @@ fn reading_after(reading: u64, event: ObserverEvent) -> u64
     }
 }
 
-// The plan of a step. Where it is not refused, settings and reading are in range, so the new deadline does not wrap.
-#[tactic(auto, using(crate::proofs::Tables::some_number), unfolding(crate::specs::Plan::plan_of))]
+// What every step is handed besides its event: the settings, the record, the observer's own number, and the reading.
+#[derive(Clone, Copy)]
+struct Turn {
+    s: Settings,
+    o: Observer,
+    x: u64,
+    reading: u64,
+}
+
+impl Turn {
+    // The refusals that all steps share, the lowest first; 4 has its condition handed in.
+    #[tactic(auto, using(crate::proofs::Tables::shared_refused, crate::proofs::Tables::shared_decide, settings::proofs::Laws::accepted_in_range), unfolding(words::specs::Said::first))]
+    fn accept_shared(self, bad: bool) -> Result<(), Refusal>
+        ensures { number_in result ≡ first (shared_refusals self.s self.o self.x bad) }
+    {
+        settings::accept(self.s)?;
+        if !has_form(self.s, self.o) {
+            return Err(Refusal::NoForm);
+        }
+        if bad {
+            return Err(Refusal::BadReading);
+        }
+        if self.s.observers <= self.x {
+            return Err(Refusal::NoSuchObserver);
+        }
+        Ok(())
+    }
+
+    // 6 comes behind them.
+    #[tactic(auto, using(crate::proofs::Tables::request_refused, crate::proofs::Tables::request_decides))]
+    fn accept_request(self, counter: u64) -> Result<(), Refusal>
+        ensures { number_in result ≡ first (request_refusals self.s self.o self.x self.reading counter) }
+    {
+        self.accept_shared(bad_reading(self.o.last_reading, self.reading))?;
+        if (counter == 0) | (messages::TOP_COUNTER < counter) {
+            return Err(Refusal::BadCounter);
+        }
+        Ok(())
+    }
+
+    // A cut is a request that is cut, after two stores at most.
+    #[tactic(auto, using(crate::proofs::Tables::cut_refused), unfolding(words::specs::Said::first))]
+    fn accept_cut(self, counter: u64, stores: u64) -> Result<(), Refusal>
+        ensures { number_in result ≡ first (cut_refusals self.s self.o self.x self.reading counter stores) }
+    {
+        self.accept_request(counter)?;
+        if 2 < stores {
+            return Err(Refusal::BadLine);
+        }
+        Ok(())
+    }
+
+    // Of a check, 4 covers the ts too.
+    fn accept_check(self, ts: u64) -> Result<(), Refusal>
+        ensures { number_in result ≡ first (check_refusals self.s self.o self.x self.reading ts) }
+    {
+        let bad = bad_reading(self.o.last_reading, self.reading) | (messages::TOP_READING < ts);
+        self.accept_shared(bad)
+    }
+
+    fn accept(self, event: ObserverEvent) -> Result<(), Refusal>
+        ensures { number_in result ≡ first (refusals_of self.s self.o self.x self.reading event) }
+    {
+        match event {
+            ObserverEvent::Request(counter) => self.accept_request(counter),
+            ObserverEvent::Cut(counter, stores) => self.accept_cut(counter, stores),
+            ObserverEvent::Check(ts) => self.accept_check(ts),
+        }
+    }
+
+    // Dead from the deadline on (rule 4.7).
+    #[tactic(auto, unfolding(observer_rules::specs::Observer::status_at))]
+    fn status(self) -> Status
+        ensures { result ≡ status_at self.o self.reading }
+    {
+        if self.reading < self.o.deadline {
+            Status::Alive
+        } else {
+            Status::Dead
+        }
+    }
+
+    // A request is granted, or met with silence; a cut sends nothing; a check is told what the observer has seen.
+    #[tactic(auto, unfolding(observer_rules::specs::Observer::answer_of, messages::specs::Answers::given, messages::specs::Answers::words_of))]
+    fn answer_of(self, event: ObserverEvent) -> Answer
+        ensures { given result ≡ answer_of self.o self.reading event }
+    {
+        match event {
+            ObserverEvent::Request(counter) if self.o.latest < counter => {
+                Answer::Send(Message::LeaseGrant(counter))
+            }
+            ObserverEvent::Request(_) => Answer::Say(Word::Silent),
+            ObserverEvent::Cut(_, _) => Answer::Say(Word::Cut),
+            ObserverEvent::Check(ts) => {
+                Answer::Send(Message::CheckAck(ts, self.o.latest, self.status()))
+            }
+        }
+    }
+
+    // The plan of an event. Where it is not refused, settings and reading are in range, so the new deadline does not wrap.
+    #[tactic(auto, using(refusals::proofs::Apart::some_number), unfolding(crate::specs::Plan::plan_of))]
+    fn plan(self, event: ObserverEvent) -> Result<Plan, Refusal>
+        ensures { planned result ≡ plan_of self.s self.o self.x self.reading event }
+    {
+        self.accept(event)?;
+        Ok(Plan {
+            answer: self.answer_of(event),
+            stores: how_many(self.o, event),
+            deadline: self.reading + self.s.observer_lease,
+            latest: new_latest(event),
+            last_reading: reading_after(self.reading, event),
+        })
+    }
+}
+
+// The plan of a step, for either form of it.
 pub fn plan_of(
     s: Settings,
     o: Observer,
@@ -203,14 +204,7 @@ pub fn plan_of(
 ) -> Result<Plan, Refusal>
     ensures { planned result ≡ plan_of s o x reading event }
 {
-    accept(s, o, x, reading, event)?;
-    Ok(Plan {
-        answer: answer_of(o, reading, event),
-        stores: how_many(o, event),
-        deadline: reading + s.observer_lease,
-        latest: new_latest(event),
-        last_reading: reading_after(reading, event),
-    })
+    Turn { s, o, x, reading }.plan(event)
 }
 
 // ---- Steps
@@ -242,7 +236,8 @@ pub fn step(
 ) -> Stepped<Observer>
     ensures { outcome result ≡ step_of s o x reading event }
 {
-    match plan_of(s, o, x, reading, event) {
+    let turn = Turn { s, o, x, reading };
+    match turn.plan(event) {
         Ok(plan) => Stepped {
             answer: Ok(plan.answer),
             rec: left_by(plan, o),
