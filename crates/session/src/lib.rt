@@ -71,6 +71,7 @@ pub fn with_observer(
     ensures { result ≡ set observers x left }
 {
     let mut next = observers;
+    // Kept: tried `get_mut`, the proof did not close: what the array holds behind a written `&mut` of `get_mut` is not known.
     if x < MOST_OBSERVERS as u64 {
         next[x as usize] = left;
     }
