@@ -77,6 +77,7 @@ pub fn write_answer(answer: Result<Answer, Refusal>, out: &mut [u8]) -> Result<u
 }
 
 // Writes a value behind its tab and gives the next place.
+// Kept: `out` and `at` apart: no plainer, because `put_bytes` and `put_number`, on which this stands, take them so.
 fn put_value(out: &mut [u8], at: usize, value: u64) -> usize
     requires { at + length (value_part value) ≤ length out.old }
     ensures { (result ≡ at + length (value_part value)) × (out.new ≡ put_at out.old at (value_part value)) }
@@ -86,6 +87,7 @@ fn put_value(out: &mut [u8], at: usize, value: u64) -> usize
 }
 
 // Writes the line of accepted settings: no slack of theirs is below 0.
+// Kept: the values one by one: no plainer, because a loop would need an array made of them, and a law of the bytes of its front.
 fn write_values(accepted: Accepted, out: &mut [u8]) -> Result<usize, Refusal>
     ensures { (said_in result ≡ fitting (values_line accepted) out.old) × (out.new ≡ filled (values_line accepted) out.old) }
 {
