@@ -90,15 +90,21 @@ pub too_long : (input : List ℕ) → most_bytes < length input
 unfolding answers room_for
 too_long input h = rw (lt-ltb most_bytes (length input) h) (refl, refl)
 
+pub ten : length (answer_line (refuses 10)) ≡ 3
+unfolding digits digits_in
+ten = rw (refusal_line 10) refl
+
+-- its answer is written where it fits, and else nothing is
+pub too_long_said : (input room : List ℕ) → most_bytes < length input
+    → (fitting (answer_line (refuses 10)) room ≡ answered_said input room) × (filled (answer_line (refuses 10)) room ≡ answered_room input room)
+unfolding fitting filled answered_said answered_room
+too_long_said input room h = let l = too_long input h in rw (l.0, l.1, ten) (refl, refl)
+
 -- and one that is not
 pub in_length : (input : List ℕ) → length input ≤ most_bytes
     → (answers input ≡ answers_of (lines_of input)) × (room_for (length input) ≡ 7 * length input)
 unfolding answers room_for
 in_length input h = rw (le-ltb most_bytes (length input) h) (refl, refl)
-
-pub ten : length (answer_line (refuses 10)) ≡ 3
-unfolding digits digits_in
-ten = rw (refusal_line 10) refl
 
 -- the answers to a run never take more than 7 times its length
 first_short : (first : Option Settings) (count : ℕ) (rest : List ℕ) → needed_first first ≤ count → 0 < count

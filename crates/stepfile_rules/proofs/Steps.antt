@@ -1,12 +1,12 @@
 -- The loop over the step lines: what has been written so far, and what is still to come, are the answers.
 use Rattle.std.specs.Prelude.{Option, Some, None}
-use Prim.Native.Nat.{ℕ, zero, suc, ◌+◌, ◌-◌, ◌*◌, ◌≤◌, ◌<◌}
+use Prim.Native.Nat.{ℕ, zero, suc, ◌+◌, ◌*◌, ◌≤◌, ◌<◌}
 use native.Mathlib.Omega.{arith}
 use native.Mathlib.Nat.{le_refl}
 use mathlib.Core.Path.{◌≡◌, refl, ap, ◌∙◌}
 use mathlib.Core.List.{List, [], ◌∷◌, ◌++◌, append_assoc, append-nil}
-use lib.ListN.{length, take, drop, length-append, length-drop, drop_of_length-le}
-use lib.Seq.{drop-drop, length-take-le}
+use lib.ListN.{length, take, drop, length-append, length-drop}
+use lib.Seq.{length-take-le}
 use Rattle.words.specs.Said.{Said}
 use Rattle.decimals.specs.Decimals.{digits, digits_in}
 use Rattle.fields.specs.Places.{put_at}
@@ -90,22 +90,19 @@ answers_short q s = within (length s) q s (le_refl (length s))
 abbrev pub session_of : Settings → Recorder.Recorder → List Observer.Observer → Standby.Standby → Session
 session_of s rec observers asking = record { settings = s; recorder = rec; observers = observers; standby = asking }
 
-pub record Gone (input : List ℕ) (first : ℕ) (out₀ : List ℕ) (begin : ℕ) (session₀ : Session) (out : List ℕ) (session : Session)
-    (from at : ℕ) : Type 0 where
+-- `done` has been written of the answers to `lines`; those to `rest` are still to come
+pub record Gone (lines out₀ : List ℕ) (begin : ℕ) (session₀ : Session) (out : List ℕ) (session : Session) (rest : List ℕ) (at : ℕ) : Type 0 where
   pub done : List ℕ
-  pub within : from ≤ length input
-  pub enough : at + 7 * (length input - from) ≤ length out₀
+  pub enough : at + 7 * length rest ≤ length out₀
   pub place : at ≡ begin + length done
   pub holds : out ≡ put_at out₀ begin done
-  pub whole : answers_to session₀ (lines_of (drop first input)) ≡ done ++ answers_to session (lines_of (drop from input))
+  pub whole : answers_to session₀ (lines_of lines) ≡ done ++ answers_to session (lines_of rest)
 
-module _ {input : List ℕ} {first : ℕ} {out₀ : List ℕ} {begin : ℕ} {session₀ : Session} where
-  pub gone_none : first ≤ length input → begin + 7 * (length input - first) ≤ length out₀
-      → Gone input first out₀ begin session₀ out₀ session₀ first begin
-  gone_none within enough =
+module _ {lines out₀ : List ℕ} {begin : ℕ} {session₀ : Session} where
+  pub gone_none : begin + 7 * length lines ≤ length out₀ → Gone lines out₀ begin session₀ out₀ session₀ lines begin
+  gone_none enough =
       record {
         done = [];
-        within = within;
         enough = enough;
         place = omega arith;
         holds = put_nothing out₀ begin (omega arith);
@@ -113,62 +110,52 @@ module _ {input : List ℕ} {first : ℕ} {out₀ : List ℕ} {begin : ℕ} {ses
       }
 
   -- the room keeps its length, and its next place is in it
-  pub gone_sized : {out : List ℕ} {session : Session} {from at : ℕ} → Gone input first out₀ begin session₀ out session from at
+  pub gone_sized : {out : List ℕ} {session : Session} {rest : List ℕ} {at : ℕ} → Gone lines out₀ begin session₀ out session rest at
       → length out ≡ length out₀
   gone_sized g = ap length g.holds ∙ length_put out₀ begin g.done
 
   -- the next answer fits
-  pub gone_fits : {out : List ℕ} {session : Session} {from at : ℕ} → Gone input first out₀ begin session₀ out session from at
-      → from < length input
-      → (count : ℕ) → count ≡ line_length (drop from input)
-      → (count ≤ length input - from) × (0 < count)
-      × (at + length (answer_line (perform_of session (step_line (take count (drop from input)))).answer) ≤ length out)
-  gone_fits {session = session} {from = from} g more count counted =
-      let rest = drop from input in
-      let left = length-drop from input in
-      let some = line_some rest (omega arith) in
+  pub gone_fits : {out : List ℕ} {session : Session} {rest : List ℕ} {at : ℕ} → Gone lines out₀ begin session₀ out session rest at
+      → 0 < length rest
+      → at + length (answer_line (perform_of session (step_line (take (line_length rest) rest))).answer) ≤ length out
+  gone_fits {session = session} {rest = rest} g more =
+      let some = line_some rest more in
       let most = line_within rest in
-      let line = take count rest in
-      let long : length line ≡ count = length-take-le count rest (omega (arith, counted)) in
-      let short = answer_short session line (omega (arith, long, counted)) in
-      (omega (arith, counted), omega (arith, counted), omega (arith, g.enough, g.within, long, counted, gone_sized g))
+      let line = take (line_length rest) rest in
+      let long : length line ≡ line_length rest = length-take-le (line_length rest) rest most in
+      let short = answer_short session line (omega (arith, long)) in
+      omega (arith, g.enough, long, gone_sized g)
 
   -- one line more
-  pub gone_next : {out : List ℕ} {session : Session} {from at : ℕ} → Gone input first out₀ begin session₀ out session from at
-      → from < length input
-      → (count : ℕ) → count ≡ line_length (drop from input)
-      → (o : Outcome Session) → o ≡ perform_of session (step_line (take count (drop from input)))
+  pub gone_next : {out : List ℕ} {session : Session} {rest : List ℕ} {at : ℕ} → Gone lines out₀ begin session₀ out session rest at
+      → 0 < length rest
+      → (o : Outcome Session) → o ≡ perform_of session (step_line (take (line_length rest) rest))
       → (out' : List ℕ) → out' ≡ put_at out at (answer_line o.answer)
-      → Gone input first out₀ begin session₀ out' o.rec (from + count) (at + length (answer_line o.answer))
+      → Gone lines out₀ begin session₀ out' o.rec (drop (line_length rest) rest) (at + length (answer_line o.answer))
   unfolding answers_to
-  gone_next {session = session} {from = from} g more count counted o performed out' written =
-      let rest = drop from input in
-      let left = length-drop from input in
+  gone_next {session = session} {rest = rest} g more o performed out' written =
+      let count = line_length rest in
+      let left = length-drop count rest in
       let line = take count rest in
       let answer = answer_line o.answer in
-      let fits = gone_fits g more count counted in
-      let long : length line ≡ count = length-take-le count rest (omega (arith, fits.0)) in
-      let short : length answer ≤ 7 * length line = rw performed (answer_short session line (omega (arith, long, fits.1))) in
-      let lines : lines_of rest ≡ line ∷ lines_of (drop (from + count) input)
-      = rw (← (drop-drop count from input), counted) (first_line rest (omega arith)) in
+      let some = line_some rest more in
+      let most = line_within rest in
+      let long : length line ≡ count = length-take-le count rest most in
+      let short : length answer ≤ 7 * length line = rw performed (answer_short session line (omega (arith, long))) in
       record {
         done = g.done ++ answer;
-        within = omega (arith, fits.0, g.within);
-        enough = omega (arith, g.enough, g.within, long, fits.0);
+        enough = omega (arith, g.enough, long, left);
         place = rw (length-append g.done answer) (omega (arith, g.place));
-        holds =
-            written ∙ rw (g.holds, g.place)
-            (put_more out₀ begin g.done answer (omega (arith, g.place, g.enough, g.within, long, fits.0)));
-        whole = g.whole ∙ rw (lines, append_assoc g.done answer _, performed) refl;
+        holds = written ∙ rw (g.holds, g.place) (put_more out₀ begin g.done answer (omega (arith, g.place, g.enough, long)));
+        whole = g.whole ∙ rw (first_line rest more, append_assoc g.done answer _, performed) refl;
       }
 
   -- at the end nothing is to come
-  pub gone_all : {out : List ℕ} {session : Session} {from at : ℕ} → Gone input first out₀ begin session₀ out session from at
-      → length input ≤ from
-      → (at ≡ begin + length (answers_to session₀ (lines_of (drop first input))))
-      × (out ≡ put_at out₀ begin (answers_to session₀ (lines_of (drop first input))))
+  pub gone_all : {out : List ℕ} {session : Session} {rest : List ℕ} {at : ℕ} → Gone lines out₀ begin session₀ out session rest at
+      → length rest ≡ 0
+      → (at ≡ begin + length (answers_to session₀ (lines_of lines))) × (out ≡ put_at out₀ begin (answers_to session₀ (lines_of lines)))
   unfolding answers_to lines_of
-  gone_all {from = from} g end =
-      let whole : answers_to session₀ (lines_of (drop first input)) ≡ g.done
-      = g.whole ∙ rw (drop_of_length-le input {i = from} end) (append-nil g.done) in
+  gone_all {rest = []} g end =
+      let whole : answers_to session₀ (lines_of lines) ≡ g.done = g.whole ∙ append-nil g.done in
       rw whole (g.place, g.holds)
+  gone_all {rest = byte ∷ bytes} g end = absurd (let z : ⊥ = omega arith in z)
