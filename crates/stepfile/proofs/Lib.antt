@@ -1,2 +1,2 @@
--- Laws of lines and of the answers to them.
-pub mod Answers
+-- Where the first line feed stands.
+mod Feeds

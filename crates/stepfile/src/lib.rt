@@ -2,107 +2,94 @@
 // session, and its answer is one line: what is written is a function of the input, `answers` of `stepfile_rules`.
 #![tactic(auto)]
 
-ghost use Rattle.std.specs.Prelude.{◌≡◌, ◌+◌, ◌-◌, ◌*◌, ◌≤◌, ◌<◌, length, take, drop};
+ghost use Rattle.std.specs.Prelude.{◌≡◌, ◌+◌, ◌*◌, ◌≤◌, ◌<◌, length, take, drop, position};
+ghost use Rattle.words.specs.Tests.{◌=?◌};
 ghost use Rattle.fields.specs.Places.{put_at};
-ghost use Rattle.line_room.specs.Written.{said_of_written};
+ghost use Rattle.refusals.specs.Refusals.{said_in};
 ghost use Rattle.session.specs.Session.{started};
 ghost use Rattle.stepfile_rules.specs.Lines.{lines_of};
 ghost use Rattle.stepfile_rules.specs.Parts.{line_length, length_said};
 ghost use Rattle.stepfile_rules.specs.Files.{answers_to, answers_of, answered_said, answered_room};
-ghost use Rattle.stepfile.specs.Answers.{said_of_answered};
 
 use answer_lines::{write_answer, write_settings_answer};
-use fields::part_from;
-use line_room::LineWritten;
-use messages::Answer;
+use refusals::Refusal;
 use session::{observer_at, start, with_observer};
-use settings::{Settings, refusal};
-use step_lines::{SettingsLine, StepLine, read_settings_line, read_step_line};
+use settings::{Settings, accept};
+use step_lines::{StepLine, read_settings_line, read_step_line};
 
 // The longest input.
 pub const MOST_BYTES: usize = 65536;
 
-// What is answered: the length of all answers, or 10, the room being too short.
-#[derive(Clone, Copy)]
-pub enum Answered {
-    Length(usize),
-    Short,
+// Where the first line feed stands.
+fn line_feed(s: &[u8]) -> Option<usize>
+    ensures { result ≡ position (λ byte. byte =? 10) s.now }
+{
+    s.iter().position(|byte| *byte == 10)
 }
 
 // The length of the line at the front, its line feed counted.
 fn line_length(s: &[u8]) -> usize
     ensures { result ≡ line_length s.now }
 {
-    let mut i: usize = 0;
-    while i < s.len() {
-        if s[i] == 10 {
-            return i + 1;
-        }
-        i += 1;
+    match line_feed(s) {
+        Some(end) => end + 1,
+        None => s.len(),
     }
-    i
 }
 
-// The first bytes, or all where there are fewer.
-fn front_of(s: &[u8], count: usize) -> &[u8]
-    ensures { result.now ≡ take count s.now }
+// The line at the front, and what stands behind it.
+fn split_line(s: &[u8]) -> (&[u8], &[u8])
+    ensures { (result.0.now ≡ take (line_length s.now) s.now) × (result.1.now ≡ drop (line_length s.now) s.now) }
 {
-    let length = s.len();
-    if count <= length {
-        &s[..count]
-    } else {
-        &s[..length]
-    }
+    s.split_at(line_length(s))
 }
 
-fn length_of(written: LineWritten) -> usize
-    ensures { result ≡ length_said (said_of_written written) }
+// How much of the room the line has taken.
+#[tactic(auto, unfolding(stepfile_rules::specs::Parts::length_said))]
+fn length_of(written: Result<usize, Refusal>) -> usize
+    ensures { result ≡ length_said (said_in written) }
 {
-    match written {
-        LineWritten::Length(count) => count,
-        LineWritten::Bad => 0,
-        LineWritten::Short => 0,
-    }
+    written.unwrap_or(0)
 }
 
-// Answers the step lines from `first` on, writing from `begin` on, and gives the place behind the answers. The session's
-// records are variables here, so that a line moves the record of its own party alone.
-fn answer_steps(input: &[u8], first: usize, s: Settings, out: &mut [u8], begin: usize) -> usize
-    requires { (first ≤ length input.now) × (length input.now ≤ 65536) × (begin + 7 * (length input.now - first) ≤ length out.old) }
-    ensures { (result ≡ begin + length (answers_to (started s) (lines_of (drop first input.now)))) × (out.new ≡ put_at out.old begin (answers_to (started s) (lines_of (drop first input.now)))) }
+// Answers the step lines, writing from `begin` on, and gives the place behind the answers. The session's records are
+// variables here, so that a line moves the record of its own party alone.
+// Kept: `out` and `begin` apart: no plainer, because a struct of the two would serve this one function alone.
+fn answer_steps(lines: &[u8], s: Settings, out: &mut [u8], begin: usize) -> usize
+    requires { (length lines.now ≤ 65536) × (begin + 7 * length lines.now ≤ length out.old) }
+    ensures { (result ≡ begin + length (answers_to (started s) (lines_of lines.now))) × (out.new ≡ put_at out.old begin (answers_to (started s) (lines_of lines.now))) }
 {
     let begun = start(s);
     let mut rec = begun.recorder;
     let mut observers = begun.observers;
     let mut asking = begun.standby;
-    let mut from = first;
+    let mut rest = lines;
     let mut at = begin;
-    while from < input.len() {
-        let rest = part_from(input, from);
-        let count = line_length(rest);
-        let line = read_step_line(front_of(rest, count));
-        let mut answer = Answer::Refused(9);
-        match line {
-            StepLine::Recorder(reading, event) => {
+    // Kept: no plainer, because `split_inclusive` of a slice promises each step of its own, and not what lines the whole gives.
+    while !rest.is_empty() {
+        let (line, behind) = split_line(rest);
+        let answer = match read_step_line(line) {
+            Some(StepLine::Recorder(reading, event)) => {
                 let done = recorder::step(s, rec, reading, event);
-                answer = done.answer;
                 rec = done.rec;
+                done.answer
             }
-            StepLine::Observer(x, reading, event) => {
+            Some(StepLine::Observer(x, reading, event)) => {
                 let done = observer::step(s, observer_at(observers, x), x, reading, event);
-                answer = done.answer;
+                // Kept: tried, the proof did not close: a call's array may not go straight into a variable of the loop.
                 let placed = with_observer(observers, x, done.rec);
                 observers = placed;
+                done.answer
             }
-            StepLine::Standby(reading, event) => {
+            Some(StepLine::Standby(reading, event)) => {
                 let done = standby::step(s, asking, reading, event);
-                answer = done.answer;
                 asking = done.rec;
+                done.answer
             }
-            StepLine::Bad => {}
-        }
+            None => Err(Refusal::BadLine),
+        };
         at += length_of(write_answer(answer, &mut out[at..]));
-        from += count;
+        rest = behind;
     }
     at
 }
@@ -112,38 +99,32 @@ fn answer_lines_of(input: &[u8], out: &mut [u8]) -> usize
     requires { (0 < length input.now) × (length input.now ≤ 65536) × (7 * length input.now ≤ length out.old) }
     ensures { (result ≡ length (answers_of (lines_of input.now))) × (out.new ≡ put_at out.old 0 (answers_of (lines_of input.now))) }
 {
-    let count = line_length(input);
-    let first = read_settings_line(front_of(input, count));
-    match first {
-        SettingsLine::Given(s) => {
-            let at = length_of(write_settings_answer(s, out));
-            let accepted = refusal(s) == 0;
-            if accepted {
-                answer_steps(input, count, s, out, at)
-            } else {
-                at
-            }
-        }
-        SettingsLine::Bad => length_of(write_answer(Answer::Refused(9), out)),
+    let (first, rest) = split_line(input);
+    let Some(s) = read_settings_line(first) else {
+        return length_of(write_answer(Err(Refusal::BadLine), out));
+    };
+    let at = length_of(write_settings_answer(s, out));
+    let accepted = accept(s).is_ok();
+    if accepted {
+        answer_steps(rest, s, out, at)
+    } else {
+        at
     }
 }
 
 // The answers to a step file, written at the front of the room. With less room than is enough for every input of that length
 // it writes nothing and answers 10.
-pub fn answer_file(input: &[u8], out: &mut [u8]) -> Answered
-    ensures { (said_of_answered result ≡ answered_said input.now out.old) × (out.new ≡ answered_room input.now out.old) }
+pub fn answer_file(input: &[u8], out: &mut [u8]) -> Result<usize, Refusal>
+    ensures { (said_in result ≡ answered_said input.now out.old) × (out.new ≡ answered_room input.now out.old) }
 {
     if MOST_BYTES < input.len() {
-        if out.len() < 3 {
-            return Answered::Short;
-        }
-        return Answered::Length(length_of(write_answer(Answer::Refused(10), out)));
+        return write_answer(Err(Refusal::WrongRoom), out);
     }
     if out.len() < 7 * input.len() {
-        return Answered::Short;
+        return Err(Refusal::WrongRoom);
     }
-    if input.len() == 0 {
-        return Answered::Length(0);
+    if input.is_empty() {
+        return Ok(0);
     }
-    Answered::Length(answer_lines_of(input, out))
+    Ok(answer_lines_of(input, out))
 }

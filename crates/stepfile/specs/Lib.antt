@@ -1,2 +1,0 @@
--- What `answer_file` answers.
-pub mod Answers
