@@ -1,3 +1,2 @@
 -- Laws of the open leases.
 pub mod Leases
-pub mod Mapped

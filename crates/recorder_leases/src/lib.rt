@@ -29,10 +29,16 @@ pub enum Advanced {
 }
 
 // The observers that have granted more than `number`.
+// Kept: a loop over places: `grants.map` proves, but misses the bar of speed: with it a step at which 64 leases end takes 3.6 times
+// as long as the twin's in `bench/firmware`, and with this 1.1 times.
 fn granted_above(grants: [u64; MOST_OBSERVERS], number: u64) -> [bool; MOST_OBSERVERS]
     ensures { result ≡ map (λ grant. number <? grant) grants }
 {
-    grants.map(|grant| number < grant)
+    let mut set = [false; MOST_OBSERVERS];
+    for i in 0..MOST_OBSERVERS {
+        set[i] = number < grants[i];
+    }
+    set
 }
 
 // Has a survival quorum granted `number` + 1 or higher?
