@@ -13,6 +13,7 @@ fn put(rt: &impl Print, bytes: &[u8]) {
     let _ = rt.write_all(bytes);
 }
 
+// Kept: no plainer, because a result is matched to print either outcome.
 fn answer(rt: &impl Print, file: &[u8], out: &mut [u8]) {
     match answer_file(file, out) {
         Ok(count) => put(rt, out.get(..count).unwrap_or(&[])),
