@@ -1,9 +1,0 @@
--- The loop stays within the slice.
-use Rattle.std.proofs.Common.{length, ◌-◌, ◌≤◌}
-use Rattle.stepfile_cases.proofs.file_length.Given as goal
-
-abbrev pub invariant-loop-i : goal.invariant-loop-i
-invariant-loop-i l = l.i ≤ length l.s
-
-abbrev pub decreases-loop-i : goal.decreases-loop-i
-decreases-loop-i l = length l.s - l.i
