@@ -1,5 +1,4 @@
--- One table of refusals behind another, as code knows it that asks for the first by a call and `?`: a refusal of the first is
--- that of both, and where the first accepts the second decides.
+-- An observer's tables of refusals, each behind the one before it, as code knows it that asks for the first by a call and `?`.
 use Rattle.std.specs.Prelude.{if◌then◌else◌}
 use Prim.Native.Nat.{ℕ}
 use mathlib.Core.Path.{◌≡◌, refl, sym}
@@ -11,20 +10,13 @@ use Rattle.words.specs.Said.{Refusal as Line, first, ◌when◌}
 use Rattle.words.proofs.Said.{first_stays, first_goes_on}
 use Rattle.refusals.specs.declared.Refusal.{Refusal}
 use Rattle.refusals.specs.Refusals.{number_of}
-use Rattle.refusals.proofs.Apart.{some_number}
+use Rattle.refusals.proofs.Tables.{refused_before, accepted_before}
 use Rattle.settings.specs.declared.Settings.{Settings}
 use Rattle.settings.specs.Settings.{n, refusals, refusal_of}
 use Rattle.messages.specs.Messages.{top_counter}
 use Rattle.messages.specs.Outcomes.{bad_reading}
 use Rattle.observer_rules.specs.declared.Observer.{Observer}
 use Rattle.observer_rules.specs.Observer.{has_form, last_reading_of, shared_refusals, request_refusals, cut_refusals}
-
-module _ (rs later : List Line) (numbered : every (λ r. 0 <? r.no) rs ≡ true) where
-  pub refused_before : (r : Refusal) → number_of r ≡ first rs → number_of r ≡ first (rs ++ later)
-  refused_before r told = first_stays rs later numbered told (some_number r)
-
-  pub accepted_before : 0 ≡ first rs → first later ≡ first (rs ++ later)
-  accepted_before told = sym (first_goes_on rs later numbered told refl)
 
 -- of a cut: what refuses its request refuses it, and 9 decides behind it
 module _ (s : Settings) (o : Observer) (x r c k : ℕ) where
