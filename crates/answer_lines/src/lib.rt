@@ -11,24 +11,20 @@ ghost use Rattle.answer_lines.specs.Parts.{value_part, values_line};
 
 use decimals::{digit_count, put_number};
 use fields::put_bytes;
-use line_room::{write_one, write_two, write_word};
-use messages::{Answer, Message, Status, Word};
+use line_room::{write_message, write_one, write_word};
+use messages::{Answer, Message, Word};
 use refusals::Refusal;
 use settings::{Accepted, Settings, judge};
 
-// Kept: a match that calls: no plainer as a table of closures, because each arm writes words and numbers of its own.
-fn write_message(m: Message, out: &mut [u8]) -> Result<usize, Refusal>
+// The line of a message behind its 0, which is written last: where the line does not fit, nothing is.
+fn write_sent(m: Message, out: &mut [u8]) -> Result<usize, Refusal>
     ensures { (said_in result ≡ fitting (answer_line (sends m)) out.old) × (out.new ≡ filled (answer_line (sends m)) out.old) }
 {
-    match m {
-        Message::LeaseRequest(counter) => write_one(b"0\tLEASE-REQUEST\t", counter, out),
-        Message::LeaseGrant(counter) => write_one(b"0\tLEASE-GRANT\t", counter, out),
-        Message::Check(ts) => write_one(b"0\tCHECK\t", ts, out),
-        Message::CheckAck(ts, counter, status) => match status {
-            Status::Alive => write_two(b"0\tCHECK-ACK\t", ts, counter, b"\tAlive\n", out),
-            Status::Dead => write_two(b"0\tCHECK-ACK\t", ts, counter, b"\tDead\n", out),
-        },
+    if out.len() < 2 {
+        return Err(Refusal::WrongRoom);
     }
+    let length = write_message(m, &mut out[2..])?;
+    Ok(put_bytes(out, 0, b"0\t") + length)
 }
 
 // The line of a word.
@@ -65,7 +61,7 @@ pub fn write_answer(answer: Result<Answer, Refusal>, out: &mut [u8]) -> Result<u
     ensures { (said_in result ≡ fitting (answer_line (said answer)) out.old) × (out.new ≡ filled (answer_line (said answer)) out.old) }
 {
     match answer {
-        Ok(Answer::Send(m)) => write_message(m, out),
+        Ok(Answer::Send(m)) => write_sent(m, out),
         Ok(Answer::Say(word)) => write_said(word, out),
         Err(refusal) => write_refusal(refusal, out),
     }
