@@ -2,3 +2,4 @@
 pub mod Lines
 pub mod OneLine
 mod Values
+mod Behind

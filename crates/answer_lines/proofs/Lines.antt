@@ -18,11 +18,11 @@ use Rattle.settings.specs.Settings.{slack_a, slack_b, slack_c, negative, refusal
 use Rattle.settings.specs.declared.Accepted.{Accepted}
 use Rattle.settings.specs.Answers.{three, judged}
 use Rattle.settings.proofs.Laws.{passes}
-use Rattle.messages.specs.declared.Status.TheVariants.{Alive, Dead}
+use Rattle.messages.specs.declared.Message.{Message}
 use Rattle.messages.specs.declared.Message.TheVariants.{LeaseRequest, LeaseGrant, Check, CheckAck}
-use Rattle.messages.specs.Messages.{fields_of, status_word}
+use Rattle.messages.specs.Messages.{fields_of}
 use Rattle.messages.specs.Answers.{refuses, sends, says, says_of, sent_fields, spoken_fields}
-use Rattle.lines_rules.specs.Writing.{bytes_of, joined, one_number, two_numbers}
+use Rattle.lines_rules.specs.Writing.{bytes_of, joined, line_of, one_number}
 use Rattle.answer_lines.specs.Answers.{answer_line, signed, value_fields, settings_answer}
 use Rattle.answer_lines.specs.Parts.{values_line}
 
@@ -30,27 +30,13 @@ pub refusal_line : (k : ℕ) → answer_line (refuses k) ≡ one_number [] k
 unfolding answer_line number spoken_fields joined
 refusal_line k = refl
 
-pub request_line : (cnt : ℕ) → answer_line (sends (LeaseRequest cnt)) ≡ one_number (text "0\tLEASE-REQUEST\t") cnt
-unfolding answer_line number spoken_fields sent_fields fields_of bytes_of joined digits digits_in
-request_line cnt = refl
-
-pub grant_line : (cnt : ℕ) → answer_line (sends (LeaseGrant cnt)) ≡ one_number (text "0\tLEASE-GRANT\t") cnt
-unfolding answer_line number spoken_fields sent_fields fields_of bytes_of joined digits digits_in
-grant_line cnt = refl
-
-pub check_line : (ts : ℕ) → answer_line (sends (Check ts)) ≡ one_number (text "0\tCHECK\t") ts
-unfolding answer_line number spoken_fields sent_fields fields_of bytes_of joined digits digits_in
-check_line ts = refl
-
-pub alive_line : (ts cnt : ℕ)
-    → answer_line (sends (CheckAck ts cnt Alive)) ≡ two_numbers (text "0\tCHECK-ACK\t") ts cnt (text "\tAlive\n")
-unfolding answer_line number spoken_fields sent_fields fields_of status_word bytes_of joined digits digits_in
-alive_line ts cnt = simp append_assoc
-
-pub dead_line : (ts cnt : ℕ)
-    → answer_line (sends (CheckAck ts cnt Dead)) ≡ two_numbers (text "0\tCHECK-ACK\t") ts cnt (text "\tDead\n")
-unfolding answer_line number spoken_fields sent_fields fields_of status_word bytes_of joined digits digits_in
-dead_line ts cnt = simp append_assoc
+-- a message's line behind the 0
+pub sent_line : (m : Message) → answer_line (sends m) ≡ text "0\t" ++ line_of m
+unfolding answer_line number spoken_fields sent_fields fields_of line_of joined digits digits_in
+sent_line (LeaseRequest cnt) = refl
+sent_line (LeaseGrant cnt) = refl
+sent_line (Check ts) = refl
+sent_line (CheckAck ts cnt status) = refl
 
 pub word_line : (w : String) → answer_line (says w) ≡ text "0\t" ++ text w ++ text "\n"
 unfolding answer_line number spoken_fields sent_fields bytes_of joined digits digits_in

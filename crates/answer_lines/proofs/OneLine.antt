@@ -23,14 +23,16 @@ use Rattle.settings.specs.Settings.{refusal_of}
 use Rattle.settings.specs.declared.Accepted.{Accepted}
 use Rattle.settings.specs.Answers.{judged}
 use Rattle.messages.specs.declared.Status.TheVariants.{Alive, Dead}
+use Rattle.messages.specs.declared.Message.{Message}
 use Rattle.messages.specs.declared.Message.TheVariants.{LeaseRequest, LeaseGrant, Check, CheckAck}
 use Rattle.messages.specs.declared.Answer.{Answer}
 use Rattle.messages.specs.declared.Answer.TheVariants.{Send, Say}
 use Rattle.messages.specs.declared.Word.TheVariants.{Unregistered, Running, Stopped, Silent, Cut, Waiting, Late, Unknown, Dead as SaysDead, Alive as SaysAlive}
 use Rattle.messages.specs.Answers.{refuses, says, given, words_of}
-use Rattle.lines_rules.specs.Writing.{joined, one_number, two_numbers}
+use Rattle.lines_rules.specs.Writing.{joined, line_of, one_number, two_numbers}
 use Rattle.answer_lines.specs.Answers.{answer_line, signed, value_fields, settings_answer}
-use Rattle.answer_lines.proofs.Lines.{refusal_line, request_line, grant_line, check_line, alive_line, dead_line, word_line, value_line}
+use Rattle.lines_rules.proofs.Lines.{request_line, grant_line, check_line, alive_line, dead_line}
+use Rattle.answer_lines.proofs.Lines.{refusal_line, sent_line, word_line, value_line}
 
 -- no line feed
 abbrev pub is_plain : ℕ → Bool
@@ -94,6 +96,16 @@ word w p l =
       short = rw (word_line w) (simp length-append (omega arith));
     }
 
+-- a message's line behind the 0
+message_line : (m : Message) → OneLine 60 (text "0\t" ++ line_of m)
+message_line (LeaseRequest c) = rw (request_line c) (one_number_lem (text "0\tLEASE-REQUEST\t") c refl (omega arith))
+message_line (LeaseGrant c) = rw (grant_line c) (one_number_lem (text "0\tLEASE-GRANT\t") c refl (omega arith))
+message_line (Check ts) = rw (check_line ts) (one_number_lem (text "0\tCHECK\t") ts refl (omega arith))
+message_line (CheckAck ts c Alive) =
+    rw (alive_line ts c) (two_numbers_lem (text "0\tCHECK-ACK\t") ts c (text "\tAlive") refl refl (omega arith) (omega arith))
+message_line (CheckAck ts c Dead) =
+    rw (dead_line ts c) (two_numbers_lem (text "0\tCHECK-ACK\t") ts c (text "\tDead") refl refl (omega arith) (omega arith))
+
 -- a refusal's number alone
 pub refusal_line_lem : (k : ℕ) → OneLine 60 (answer_line (refuses k))
 refusal_line_lem k = rw (refusal_line k) (one_number_lem [] k refl (omega arith))
@@ -101,13 +113,7 @@ refusal_line_lem k = rw (refusal_line k) (one_number_lem [] k refl (omega arith)
 -- a step's answer
 pub answer_line_lem : (a : Answer) → OneLine 60 (answer_line (given a))
 unfolding given words_of
-answer_line_lem (Send (LeaseRequest c)) = rw (request_line c) (one_number_lem (text "0\tLEASE-REQUEST\t") c refl (omega arith))
-answer_line_lem (Send (LeaseGrant c)) = rw (grant_line c) (one_number_lem (text "0\tLEASE-GRANT\t") c refl (omega arith))
-answer_line_lem (Send (Check ts)) = rw (check_line ts) (one_number_lem (text "0\tCHECK\t") ts refl (omega arith))
-answer_line_lem (Send (CheckAck ts c Alive)) =
-    rw (alive_line ts c) (two_numbers_lem (text "0\tCHECK-ACK\t") ts c (text "\tAlive") refl refl (omega arith) (omega arith))
-answer_line_lem (Send (CheckAck ts c Dead)) =
-    rw (dead_line ts c) (two_numbers_lem (text "0\tCHECK-ACK\t") ts c (text "\tDead") refl refl (omega arith) (omega arith))
+answer_line_lem (Send m) = rw (sent_line m) (message_line m)
 answer_line_lem (Say Unregistered) = word "unregistered" refl (omega arith)
 answer_line_lem (Say Running) = word "running" refl (omega arith)
 answer_line_lem (Say Stopped) = word "stopped" refl (omega arith)

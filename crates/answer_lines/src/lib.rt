@@ -4,32 +4,31 @@
 ghost use Rattle.std.specs.Prelude.{◌≡◌, ◌+◌, ◌≤◌, [], length};
 ghost use Rattle.fields.specs.Places.{put_at};
 ghost use Rattle.refusals.specs.Refusals.{number_of, said_in};
-ghost use Rattle.messages.specs.Answers.{said, given, sends, speaks, words_of};
+ghost use Rattle.messages.specs.Answers.{said, sends, speaks, words_of};
 ghost use Rattle.lines_rules.specs.Writing.{fitting, filled, one_number};
 ghost use Rattle.answer_lines.specs.Answers.{answer_line, settings_answer};
 ghost use Rattle.answer_lines.specs.Parts.{value_part, values_line};
 
 use decimals::{digit_count, put_number};
 use fields::put_bytes;
-use line_room::{write_one, write_two, write_word};
-use messages::{Answer, Message, Status, Word};
+use line_room::{write_message, write_one, write_word};
+use messages::{Answer, Message, Word};
 use refusals::Refusal;
 use settings::{Accepted, Settings, judge};
 
-fn write_message(m: Message, out: &mut [u8]) -> Result<usize, Refusal>
+// The line of a message behind its 0, which is written last: where the line does not fit, nothing is.
+fn write_sent(m: Message, out: &mut [u8]) -> Result<usize, Refusal>
     ensures { (said_in result ≡ fitting (answer_line (sends m)) out.old) × (out.new ≡ filled (answer_line (sends m)) out.old) }
 {
-    match m {
-        Message::LeaseRequest(counter) => write_one(b"0\tLEASE-REQUEST\t", counter, out),
-        Message::LeaseGrant(counter) => write_one(b"0\tLEASE-GRANT\t", counter, out),
-        Message::Check(ts) => write_one(b"0\tCHECK\t", ts, out),
-        Message::CheckAck(ts, counter, status) => match status {
-            Status::Alive => write_two(b"0\tCHECK-ACK\t", ts, counter, b"\tAlive\n", out),
-            Status::Dead => write_two(b"0\tCHECK-ACK\t", ts, counter, b"\tDead\n", out),
-        },
+    if out.len() < 2 {
+        return Err(Refusal::WrongRoom);
     }
+    let length = write_message(m, &mut out[2..])?;
+    Ok(put_bytes(out, 0, b"0\t") + length)
 }
 
+// The line of a word.
+// Kept: a match that calls: no plainer as a table of closures, because each arm writes a text of its own, two of them a number too.
 fn write_said(word: Word, out: &mut [u8]) -> Result<usize, Refusal>
     ensures { (said_in result ≡ fitting (answer_line (speaks (words_of word))) out.old) × (out.new ≡ filled (answer_line (speaks (words_of word))) out.old) }
 {
@@ -55,23 +54,15 @@ fn write_refusal(refusal: Refusal, out: &mut [u8]) -> Result<usize, Refusal>
     write_one(b"", u64::from(number), out)
 }
 
-#[tactic(auto, unfolding(messages::specs::Answers::given))]
-fn write_given(answer: Answer, out: &mut [u8]) -> Result<usize, Refusal>
-    ensures { (said_in result ≡ fitting (answer_line (given answer)) out.old) × (out.new ≡ filled (answer_line (given answer)) out.old) }
-{
-    match answer {
-        Answer::Send(m) => write_message(m, out),
-        Answer::Say(word) => write_said(word, out),
-    }
-}
-
 // Writes the line of a step's answer at the front of the room, or nothing where it does not fit.
-#[tactic(auto, using(crate::proofs::Lines::refusal_line), unfolding(messages::specs::Answers::said))]
+// Kept: a match that calls: no plainer as a table of closures, because each arm hands on a value of its own type.
+#[tactic(auto, using(crate::proofs::Lines::refusal_line), unfolding(messages::specs::Answers::said, messages::specs::Answers::given))]
 pub fn write_answer(answer: Result<Answer, Refusal>, out: &mut [u8]) -> Result<usize, Refusal>
     ensures { (said_in result ≡ fitting (answer_line (said answer)) out.old) × (out.new ≡ filled (answer_line (said answer)) out.old) }
 {
     match answer {
-        Ok(answer) => write_given(answer, out),
+        Ok(Answer::Send(m)) => write_sent(m, out),
+        Ok(Answer::Say(word)) => write_said(word, out),
         Err(refusal) => write_refusal(refusal, out),
     }
 }
@@ -107,6 +98,7 @@ fn write_values(accepted: Accepted, out: &mut [u8]) -> Result<usize, Refusal>
 }
 
 // The same for the line that answers the settings.
+// Kept: a match that calls: no plainer with closures, because each arm hands on a value of its own type.
 #[tactic(auto, using(crate::proofs::Lines::accepted_answer, crate::proofs::Lines::refused_answer))]
 pub fn write_settings_answer(s: Settings, out: &mut [u8]) -> Result<usize, Refusal>
     ensures { (said_in result ≡ fitting (settings_answer s) out.old) × (out.new ≡ filled (settings_answer s) out.old) }

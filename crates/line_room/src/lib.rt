@@ -1,14 +1,16 @@
-// Lines written into lent room: a word, or a word with one number or two behind it. The messages' lines and the lines of
-// answers are made of these. Each gives the line's length, or refusal 10, the room being too short. Serves rules 6.4 and 6.6.
+// Lines written into lent room: a word, or a word with one number or two behind it, and of these a message's line. The message
+// lines and the lines of answers are made of them. Each gives the line's length, or refusal 10, the room being too short.
+// Serves rules 6.4 and 6.6.
 // What is written stands in `lines_rules`.
 #![tactic(auto)]
 
 ghost use Rattle.std.specs.Prelude.{◌≡◌};
-ghost use Rattle.lines_rules.specs.Writing.{fitting, filled, one_number, two_numbers};
+ghost use Rattle.lines_rules.specs.Writing.{fitting, filled, one_number, two_numbers, line_of};
 ghost use Rattle.refusals.specs.Refusals.{said_in};
 
 use decimals::{digit_count, put_number};
 use fields::put_bytes;
+use messages::{Message, Status};
 use refusals::Refusal;
 
 // A line of a word, which holds its line feed already.
@@ -55,4 +57,23 @@ pub fn write_two(
     let second_at = put_bytes(out, tab_at, b"\t");
     let end_at = put_number(out, second_at, second);
     Ok(put_bytes(out, end_at, end))
+}
+
+// The line of a message, whatever its numbers.
+// Kept: a match that calls: no plainer as a table of closures, because each arm writes words and numbers of its own.
+#[tactic(auto, using(lines_rules::proofs::Lines::check_line, lines_rules::proofs::Lines::alive_line, lines_rules::proofs::Lines::dead_line))]
+pub fn write_message(m: Message, out: &mut [u8]) -> Result<usize, Refusal>
+    ensures { (said_in result ≡ fitting (line_of m) out.old) × (out.new ≡ filled (line_of m) out.old) }
+{
+    match m {
+        Message::LeaseRequest(counter) => write_one(b"LEASE-REQUEST\t", counter, out),
+        Message::LeaseGrant(counter) => write_one(b"LEASE-GRANT\t", counter, out),
+        Message::Check(ts) => write_one(b"CHECK\t", ts, out),
+        Message::CheckAck(ts, counter, Status::Alive) => {
+            write_two(b"CHECK-ACK\t", ts, counter, b"\tAlive\n", out)
+        }
+        Message::CheckAck(ts, counter, Status::Dead) => {
+            write_two(b"CHECK-ACK\t", ts, counter, b"\tDead\n", out)
+        }
+    }
 }

@@ -11,7 +11,7 @@ ghost use Rattle.lines_rules.specs.Writing.{write_said, write_room};
 
 use decimals::read_number;
 use fields::{after, is_exactly, part_from};
-use line_room::{write_one, write_two};
+use line_room::write_message;
 use messages::{Message, Status};
 use refusals::Refusal;
 
@@ -95,22 +95,12 @@ fn has_form(m: Message) -> bool
 
 // Writes the message's line at the front of the room. What stands behind the line is not touched, and where no line is
 // written nothing is.
-#[tactic(auto, unfolding(lines_rules::specs::Writing::write_said, lines_rules::specs::Writing::write_room), using(lines_rules::proofs::Lines::check_line, lines_rules::proofs::Lines::alive_line, lines_rules::proofs::Lines::dead_line))]
+#[tactic(auto, unfolding(lines_rules::specs::Writing::write_said, lines_rules::specs::Writing::write_room))]
 pub fn write_line(m: Message, out: &mut [u8]) -> Result<usize, Refusal>
     ensures { (said_in result ≡ write_said m out.old) × (out.new ≡ write_room m out.old) }
 {
     if !has_form(m) {
         return Err(Refusal::BadLine);
     }
-    match m {
-        Message::LeaseRequest(counter) => write_one(b"LEASE-REQUEST\t", counter, out),
-        Message::LeaseGrant(counter) => write_one(b"LEASE-GRANT\t", counter, out),
-        Message::Check(ts) => write_one(b"CHECK\t", ts, out),
-        Message::CheckAck(ts, counter, Status::Alive) => {
-            write_two(b"CHECK-ACK\t", ts, counter, b"\tAlive\n", out)
-        }
-        Message::CheckAck(ts, counter, Status::Dead) => {
-            write_two(b"CHECK-ACK\t", ts, counter, b"\tDead\n", out)
-        }
-    }
+    write_message(m, out)
 }
