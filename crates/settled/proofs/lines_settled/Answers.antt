@@ -8,6 +8,7 @@ returns c = record {
   read_line = λ _ _ _ _ _ _ p q. (said_in_apart (p ∙ sym q), refl);
   write_line = λ _ _ _ _ _ _ p q. (said_in_apart (p.0 ∙ sym q.0), ap (λ out. (tt, (out, tt))) (p.1 ∙ sym q.1));
   write_word = λ _ _ _ _ _ _ p q. (said_in_apart (p.0 ∙ sym q.0), ap (λ out. (tt, (out, tt))) (p.1 ∙ sym q.1));
+  write_message = λ _ _ _ _ _ _ p q. (said_in_apart (p.0 ∙ sym q.0), ap (λ out. (tt, (out, tt))) (p.1 ∙ sym q.1));
   write_one = λ _ _ _ _ _ _ p q. (said_in_apart (p.0 ∙ sym q.0), ap (λ out. (tt, (tt, (out, tt)))) (p.1 ∙ sym q.1));
   write_two =
       λ _ _ _ _ _ _ p q. (said_in_apart (p.0 ∙ sym q.0), ap (λ out. (tt, (tt, (tt, (tt, (out, tt)))))) (p.1 ∙ sym q.1));
