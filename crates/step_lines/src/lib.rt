@@ -24,7 +24,7 @@ pub enum StepLine {
 }
 
 // Numbers in a row, each behind one tab: the place behind them, and the numbers.
-// Kept: an array: a form has as many numbers as its type says, so there is no count beside them.
+// Kept: an array: fixed memory, and its type says how many numbers there are, so that no count stands beside them.
 #[derive(Clone, Copy)]
 pub struct Row<const N: usize> {
     pub behind: usize,
@@ -48,7 +48,7 @@ fn extend<const N: usize>(s: &[u8], row: Row<N>, k: usize) -> Option<Row<N>>
 }
 
 // The numbers at the front, `N` of them.
-// Kept: a loop over places: k is the place that `extend` writes the number at. The zeros are what it writes over.
+// Kept: a loop over places: no plainer without k, because k is the place in the array that `extend` writes at: fixed memory.
 fn row_of<const N: usize>(s: &[u8]) -> Option<Row<N>>
     ensures { result ≡ row s.now N }
 {
