@@ -50,6 +50,7 @@ pub fn is_granted_above(s: Settings, rec: Recorder, number: u64) -> bool
 
 // Each open lease i with reading - send ≥ P has ended: lease i + 1 must then have its grants. Gives the leases that have not
 // ended, or None where one that has lacks them. One pass; a quorum is counted only for leases that have ended.
+// Kept: `sends` with its count beside it, as in the record that they go into: the C interface.
 fn sift(s: Settings, rec: Recorder, reading: u64) -> Option<Left>
     ensures { result ≡ sifted s rec reading }
 {

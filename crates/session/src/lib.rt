@@ -12,6 +12,7 @@ use recorder_rules::{Recorder, fresh_recorder};
 use settings::{MOST_OBSERVERS, Settings};
 use standby_rules::{Standby, UNUSED};
 
+// Kept: `observers` is an array: an observer's number is its place, and none above 15 has a record (rule 7.5): fixed memory.
 #[derive(Clone, Copy)]
 pub struct Session {
     pub settings: Settings,
@@ -21,6 +22,7 @@ pub struct Session {
     pub standby: Standby,
 }
 
+// Kept: no plainer by a derived Default, which says of each field alone that it is 0, where this is one equation.
 fn fresh_observer() -> Observer
     ensures { result ≡ freshObserver }
 {
@@ -31,6 +33,7 @@ fn fresh_observer() -> Observer
     }
 }
 
+// Kept: no plainer by a derived Default, as above; and no `closed_round`, which is in `standby`: this crate does not stand on it.
 fn fresh_standby() -> Standby
     ensures { result ≡ freshStandby }
 {
@@ -43,6 +46,7 @@ fn fresh_standby() -> Standby
 }
 
 // A run starts with every field of every record 0.
+// Kept: an array of observers, as in `Session`: fixed memory.
 pub fn start(s: Settings) -> Session
     ensures { result ≡ started s }
 {
@@ -63,6 +67,7 @@ pub fn observer_at(observers: [Observer; MOST_OBSERVERS], x: u64) -> Observer
 }
 
 // The records with that of observer x as it was left.
+// Kept: an array of observers, as in `Session`: fixed memory.
 pub fn with_observer(
     observers: [Observer; MOST_OBSERVERS],
     x: u64,

@@ -1,2 +1,3 @@
 -- Lemmas of the standby's step.
 pub mod Greatest
+pub mod Tables

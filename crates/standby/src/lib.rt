@@ -18,6 +18,7 @@ use settings::{MOST_OBSERVERS, Settings};
 use standby_form::{has_form, kept_marks};
 use standby_rules::{Place, Standby, StandbyEvent, UNUSED};
 
+// Kept: beside `fresh_standby` of `session`: that is this at reading 0, in a crate that does not stand on this one.
 fn closed_round(reading: u64) -> Standby
     ensures { result ≡ closed reading }
 {
@@ -105,7 +106,7 @@ impl Turn {
         Ok(())
     }
 
-    #[tactic(auto, unfolding(words::specs::Said::first))]
+    #[tactic(auto, using(crate::proofs::Tables::ack_refused, crate::proofs::Tables::ack_decides), unfolding(words::specs::Said::first))]
     fn accept_ack(self, observer: u64, ts: u64, counter: u64) -> Result<(), Refusal>
         ensures { number_in result ≡ first (ack_refusals self.s self.q self.reading observer ts counter) }
     {

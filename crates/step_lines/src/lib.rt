@@ -3,9 +3,9 @@
 // the ranges. What is no line of the forms reads as `None`.
 #![tactic(auto)]
 
-ghost use Rattle.std.specs.Prelude.{◌≡◌, ◌<◌, ◌≤◌};
+ghost use Rattle.std.specs.Prelude.{◌≡◌, ◌<◌, ◌≤◌, option_map};
 ghost use Rattle.step_lines.specs.Rows.{extended, row};
-ghost use Rattle.step_lines.specs.Reading.{last_numbers, settings_numbers, settings_line, grant_numbers, recorder_event, recorder_numbers, cut_numbers, request_end, request_numbers, check_numbers, observer_event, observer_numbers, ack_numbers, standby_event, standby_numbers, step_line};
+ghost use Rattle.step_lines.specs.Reading.{behind_row, last_numbers, settings_numbers, settings_line, grant_numbers, recorder_event, cut_numbers, request_end, request_numbers, check_numbers, observer_event, ack_numbers, standby_event, step_line};
 
 use decimals::read_number;
 use fields::{after, is_exactly, part_from};
@@ -24,6 +24,7 @@ pub enum StepLine {
 }
 
 // Numbers in a row, each behind one tab: the place behind them, and the numbers.
+// Kept: an array: fixed memory, and its type says how many numbers there are, so that no count stands beside them.
 #[derive(Clone, Copy)]
 pub struct Row<const N: usize> {
     pub behind: usize,
@@ -47,6 +48,7 @@ fn extend<const N: usize>(s: &[u8], row: Row<N>, k: usize) -> Option<Row<N>>
 }
 
 // The numbers at the front, `N` of them.
+// Kept: a loop over places: no plainer without k, because k is the place in the array that `extend` writes at: fixed memory.
 fn row_of<const N: usize>(s: &[u8]) -> Option<Row<N>>
     ensures { result ≡ row s.now N }
 {
@@ -60,7 +62,20 @@ fn row_of<const N: usize>(s: &[u8]) -> Option<Row<N>>
     Some(found)
 }
 
+// The numbers at the front, `N` of them, and what stands behind them.
+fn numbers_of<const N: usize>(s: &[u8]) -> Option<([u64; N], &[u8])>
+    requires { N ≤ 7 }
+    ensures numbers { option_map (λ found. found.0) result ≡ option_map (λ v. v.numbers) (row s.now N) }
+    ensures rest { option_map (λ found. found.1.now) result ≡ option_map (λ v. behind_row s.now v) (row s.now N) }
+{
+    let row = row_of(s)?;
+    let numbers = row.numbers;
+    let rest = part_from(s, row.behind);
+    Some((numbers, rest))
+}
+
 // The numbers of a row that the line feed ends.
+// Kept: `row_of` and not `numbers_of`: tried, the proof did not close: `?` on its pair is not covered where N is a parameter.
 #[tactic(auto, unfolding(crate::specs::Reading::closed_by, crate::specs::Reading::last_numbers))]
 fn last_numbers<const N: usize>(s: &[u8]) -> Option<[u64; N]>
     requires { N ≤ 7 }
@@ -97,6 +112,7 @@ fn grant_numbers(s: &[u8]) -> Option<RecorderEvent>
     Some(RecorderEvent::Grant(observer, number))
 }
 
+// Kept: no plainer as one with `standby_event`: that takes three words, two events and a closure, to say two `if`s and an `after`.
 #[tactic(auto, unfolding(crate::specs::Reading::recorder_event, fields::specs::Places::behind))]
 fn recorder_event(s: &[u8]) -> Option<RecorderEvent>
     ensures { result ≡ recorder_event s.now }
@@ -108,16 +124,6 @@ fn recorder_event(s: &[u8]) -> Option<RecorderEvent>
         return Some(RecorderEvent::Drive);
     }
     grant_numbers(after(s, b"\tgrant")?)
-}
-
-#[tactic(auto, unfolding(crate::specs::Reading::recorder_numbers))]
-fn recorder_numbers(s: &[u8]) -> Option<StepLine>
-    ensures { result ≡ recorder_numbers s.now (row s.now 1) }
-{
-    let row = row_of::<1>(s)?;
-    let [reading] = row.numbers;
-    let event = recorder_event(part_from(s, row.behind))?;
-    Some(StepLine::Recorder(reading, event))
 }
 
 #[tactic(auto, unfolding(crate::specs::Reading::last_numbers, crate::specs::Reading::cut_numbers))]
@@ -142,9 +148,8 @@ fn request_end(counter: u64, s: &[u8]) -> Option<ObserverEvent>
 fn request_numbers(s: &[u8]) -> Option<ObserverEvent>
     ensures { result ≡ request_numbers s.now (row s.now 1) }
 {
-    let row = row_of::<1>(s)?;
-    let [counter] = row.numbers;
-    request_end(counter, part_from(s, row.behind))
+    let ([counter], rest) = numbers_of::<1>(s)?;
+    request_end(counter, rest)
 }
 
 #[tactic(auto, unfolding(crate::specs::Reading::last_numbers, crate::specs::Reading::check_numbers))]
@@ -165,23 +170,11 @@ fn observer_event(s: &[u8]) -> Option<ObserverEvent>
     check_numbers(after(s, b"\tcheck")?)
 }
 
-#[tactic(auto, unfolding(crate::specs::Reading::observer_numbers))]
-fn observer_numbers(s: &[u8]) -> Option<StepLine>
-    ensures { result ≡ observer_numbers s.now (row s.now 2) }
-{
-    let row = row_of::<2>(s)?;
-    let [x, reading] = row.numbers;
-    let event = observer_event(part_from(s, row.behind))?;
-    Some(StepLine::Observer(x, reading, event))
-}
-
 #[tactic(auto, unfolding(crate::specs::Reading::closed_by, crate::specs::Reading::ack_numbers))]
 fn ack_numbers(s: &[u8]) -> Option<StandbyEvent>
     ensures { result ≡ ack_numbers s.now (row s.now 3) }
 {
-    let row = row_of::<3>(s)?;
-    let [x, ts, counter] = row.numbers;
-    let rest = part_from(s, row.behind);
+    let ([x, ts, counter], rest) = numbers_of::<3>(s)?;
     if is_exactly(rest, b"\tAlive\n") {
         return Some(StandbyEvent::Ack(x, ts, counter, Status::Alive));
     }
@@ -191,6 +184,7 @@ fn ack_numbers(s: &[u8]) -> Option<StandbyEvent>
     None
 }
 
+// Kept: no plainer as one with `recorder_event`: that takes three words, two events and a closure, to say two `if`s and an `after`.
 #[tactic(auto, unfolding(crate::specs::Reading::standby_event, fields::specs::Places::behind))]
 fn standby_event(s: &[u8]) -> Option<StandbyEvent>
     ensures { result ≡ standby_event s.now }
@@ -204,26 +198,19 @@ fn standby_event(s: &[u8]) -> Option<StandbyEvent>
     ack_numbers(after(s, b"\tack")?)
 }
 
-#[tactic(auto, unfolding(crate::specs::Reading::standby_numbers))]
-fn standby_numbers(s: &[u8]) -> Option<StepLine>
-    ensures { result ≡ standby_numbers s.now (row s.now 1) }
-{
-    let row = row_of::<1>(s)?;
-    let [reading] = row.numbers;
-    let event = standby_event(part_from(s, row.behind))?;
-    Some(StepLine::Standby(reading, event))
-}
-
 // What a step line asks for.
-#[tactic(auto, unfolding(crate::specs::Reading::step_line, fields::specs::Places::behind))]
+#[tactic(auto, unfolding(crate::specs::Reading::step_line, crate::specs::Reading::recorder_numbers, crate::specs::Reading::observer_numbers, crate::specs::Reading::standby_numbers, fields::specs::Places::behind))]
 pub fn read_step_line(s: &[u8]) -> Option<StepLine>
     ensures { result ≡ step_line s.now }
 {
     if let Some(rest) = after(s, b"R") {
-        return recorder_numbers(rest);
+        let ([reading], event) = numbers_of::<1>(rest)?;
+        return Some(StepLine::Recorder(reading, recorder_event(event)?));
     }
     if let Some(rest) = after(s, b"O") {
-        return observer_numbers(rest);
+        let ([x, reading], event) = numbers_of::<2>(rest)?;
+        return Some(StepLine::Observer(x, reading, observer_event(event)?));
     }
-    standby_numbers(after(s, b"Q")?)
+    let ([reading], event) = numbers_of::<1>(after(s, b"Q")?)?;
+    Some(StepLine::Standby(reading, standby_event(event)?))
 }
