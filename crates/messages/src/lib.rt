@@ -63,6 +63,7 @@ pub struct Stepped<R> {
 }
 
 // Is it a refusal, whatever its number?
+// Kept: a function of one line, which its edit a_message_is_a_refusal and SettingsSettled of `settled` name.
 #[tactic(auto, unfolding(crate::specs::Answers::said, crate::specs::Answers::is_refusal, crate::specs::Answers::given))]
 pub fn is_refusal(answer: Result<Answer, Refusal>) -> bool
     ensures { result ≡ is_refusal (said answer) }

@@ -1,2 +1,3 @@
 -- Laws of the recorder.
 mod Walked
+pub mod Tables

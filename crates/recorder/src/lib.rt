@@ -31,7 +31,7 @@ impl Turn {
     // ---- Refusals
 
     // The table that every step has: refusals 1 to 4.
-    #[tactic(auto, unfolding(words::specs::Said::first, settings::specs::Settings::refusal_of))]
+    #[tactic(auto, using(crate::proofs::Tables::step_refused, crate::proofs::Tables::step_decides), unfolding(words::specs::Said::first))]
     fn accept_step(self) -> Result<(), Refusal>
         ensures { number_in result ≡ first (step_refusals self.s self.rec self.reading) }
     {
@@ -59,6 +59,7 @@ impl Turn {
         Ok(())
     }
 
+    #[tactic(auto, using(crate::proofs::Tables::event_refused, crate::proofs::Tables::grant_decides))]
     fn accept(self, event: RecorderEvent) -> Result<(), Refusal>
         ensures { number_in result ≡ first (refusals_of self.s self.rec self.reading event) }
     {

@@ -138,6 +138,7 @@ fn difference(x: u64, y: u64) -> i64
 }
 
 // x - y, or 0 where y is the greater: no record, whatever its numbers, makes a difference wrap.
+// Kept: a function of one line, which its edit less_never_zero and SettingsSettled of `settled` name.
 pub fn less(x: u64, y: u64) -> u64
     ensures { result ≡ x - y }
 {
