@@ -1,15 +1,14 @@
 -- The refusals of an ack, as code knows them that asks for those of the record by a call and `?`: what refuses the record refuses
 -- the ack, and where the record is accepted the lines from 4 on decide.
 use Prim.Native.Nat.{ℕ}
-use mathlib.Core.Path.{◌≡◌, refl, sym}
+use mathlib.Core.Path.{◌≡◌, refl}
 use mathlib.Core.Bool.{◌||◌, not}
 use mathlib.Core.List.{List, [], ◌∷◌, ◌++◌}
 use Rattle.words.specs.Tests.{◌<?◌, ◌≤?◌, ◌=?◌}
 use Rattle.words.specs.Said.{Refusal as Line, first, ◌when◌}
-use Rattle.words.proofs.Said.{first_stays, first_goes_on}
 use Rattle.refusals.specs.declared.Refusal.{Refusal}
 use Rattle.refusals.specs.Refusals.{number_of}
-use Rattle.refusals.proofs.Apart.{some_number}
+use Rattle.refusals.proofs.Tables.{refused_before, accepted_before}
 use Rattle.settings.specs.declared.Settings.{Settings}
 use Rattle.settings.specs.Settings.{n, refusals}
 use Rattle.messages.specs.Messages.{top_counter, top_reading}
@@ -31,7 +30,7 @@ module _ (s : Settings) (q : Standby) (r x ts cnt : ℕ) where
       ∷ []
 
   pub ack_refused : (e : Refusal) → number_of e ≡ first of_record → number_of e ≡ first (ack_refusals s q r x ts cnt)
-  ack_refused e told = first_stays of_record of_ack refl told (some_number e)
+  ack_refused = refused_before of_record of_ack refl
 
   pub ack_decides : 0 ≡ first of_record → first of_ack ≡ first (ack_refusals s q r x ts cnt)
-  ack_decides told = sym (first_goes_on of_record of_ack refl told refl)
+  ack_decides = accepted_before of_record of_ack refl
