@@ -1,13 +1,11 @@
 -- An observer's tables of refusals, each behind the one before it, as code knows it that asks for the first by a call and `?`.
 use Rattle.std.specs.Prelude.{if◌then◌else◌}
 use Prim.Native.Nat.{ℕ}
-use mathlib.Core.Path.{◌≡◌, refl, sym}
-use mathlib.Core.Bool.{Bool, true, not, ◌||◌}
-use mathlib.Core.List.{List, [], ◌∷◌, ◌++◌}
+use mathlib.Core.Path.{◌≡◌, refl}
+use mathlib.Core.Bool.{Bool, not, ◌||◌}
+use mathlib.Core.List.{[], ◌∷◌}
 use Rattle.words.specs.Tests.{◌<?◌, ◌≤?◌, ◌=?◌}
-use Rattle.words.specs.Lists.{every}
-use Rattle.words.specs.Said.{Refusal as Line, first, ◌when◌}
-use Rattle.words.proofs.Said.{first_stays, first_goes_on}
+use Rattle.words.specs.Said.{first, ◌when◌}
 use Rattle.refusals.specs.declared.Refusal.{Refusal}
 use Rattle.refusals.specs.Refusals.{number_of}
 use Rattle.refusals.proofs.Tables.{refused_before, accepted_before}
