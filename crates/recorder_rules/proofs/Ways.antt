@@ -6,7 +6,6 @@ use mathlib.Core.Bool.{true, false, ◌||◌, not}
 use mathlib.Core.List.{[], ◌∷◌}
 use borrow.Author.Tests.{leb-false, ltb-false, eqb-true, eqb-false, not-true, not-false, le-ltb, lt-leb}
 use Rattle.words.specs.Tests.{◌<?◌, ◌≤?◌}
-use Rattle.words.specs.Lists.{every}
 use Rattle.words.specs.Said.{Said, first, ◌when◌}
 use Rattle.words.proofs.Booleans.{neither_holds, whether}
 use Rattle.words.proofs.Said.{none_applies, both_pass, passes_on}

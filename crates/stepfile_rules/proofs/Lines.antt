@@ -1,14 +1,12 @@
 -- Lines: where one ends, and that all of them together are the file.
 use Rattle.std.specs.Prelude.{if◌then◌else◌}
-use Prim.Native.Nat.{ℕ, suc, ◌+◌, ◌≤◌, ◌<◌}
+use Prim.Native.Nat.{ℕ, suc, ◌≤◌, ◌<◌}
 use native.Mathlib.Nat.{not-suc-le-zero}
-use native.Mathlib.Numerals.{add-one}
 use native.Mathlib.Omega.{arith}
 use mathlib.Core.Path.{◌≡◌, refl, ap, ◌∙◌}
 use mathlib.Core.Bool.{Bool, true, false}
 use mathlib.Core.List.{List, [], ◌∷◌}
-use lib.ListN.{length, take, drop, get_or}
-use lib.Seq.{drop-cons}
+use lib.ListN.{length, take, drop}
 use Rattle.words.specs.Tests.{◌=?◌}
 use Rattle.stepfile_rules.specs.Lines.{onto, lines_of, together}
 use Rattle.stepfile_rules.specs.Parts.{line_length}
