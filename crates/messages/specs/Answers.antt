@@ -59,6 +59,11 @@ unfoldable pub said : Result Answer Refusal → Said Spoken
 said (Ok a) = given a
 said (Err r) = refuses (number_of_refusal r)
 
+-- the same with a number in the refusal's place, any number
+unfoldable pub said_with : Result Answer ℕ → Said Spoken
+said_with (Ok a) = given a
+said_with (Err k) = refuses k
+
 -- a refusal, whatever its number
 unfoldable pub is_refusal : Said Spoken → Bool
 is_refusal (refusal k values) = true
@@ -78,7 +83,11 @@ unfoldable pub spoken_fields : Said Spoken → List Field
 spoken_fields (refusal k values) = map number values
 spoken_fields (gives (giving sending words)) = sent_fields sending ++ words
 
--- Number, words and values together tell all answers apart.
-abbrev pub AnswersToldApart : Type 0
-AnswersToldApart =
-    (a a' : Result Answer Refusal) → number_of (said a) ≡ number_of (said a') → spoken_fields (said a) ≡ spoken_fields (said a') → a ≡ a'
+-- Number, words and values together tell all answers apart, whatever number a refusal has, and so those of the ten refusals.
+pub record AnswersToldApart : Type 0 where
+  pub any_number : (a a' : Result Answer ℕ) → number_of (said_with a) ≡ number_of (said_with a')
+      → spoken_fields (said_with a) ≡ spoken_fields (said_with a')
+      → a ≡ a'
+  pub refusals : (a a' : Result Answer Refusal) → number_of (said a) ≡ number_of (said a')
+      → spoken_fields (said a) ≡ spoken_fields (said a')
+      → a ≡ a'

@@ -2,7 +2,7 @@
 #![tactic(auto)]
 
 ghost use Rattle.std.specs.Prelude.{◌≡◌};
-ghost use Rattle.messages.specs.Answers.{said, is_refusal, AnswersToldApart};
+ghost use Rattle.messages.specs.Answers.{said_with, is_refusal, AnswersToldApart};
 ghost use Rattle.messages.specs.Outcomes.{bad_reading};
 
 use refusals::Refusal;
@@ -63,10 +63,10 @@ pub struct Stepped<R> {
 }
 
 // Is it a refusal, whatever its number?
-// Kept: a function of one line, which its edit a_message_is_a_refusal and SettingsSettled of `settled` name.
-#[tactic(auto, unfolding(crate::specs::Answers::said, crate::specs::Answers::is_refusal, crate::specs::Answers::given))]
-pub fn is_refusal(answer: Result<Answer, Refusal>) -> bool
-    ensures { result ≡ is_refusal (said answer) }
+// Kept: a number in the refusal's place, and a function of one line: it took any number, and SettingsSettled and its edit name it.
+#[tactic(auto, unfolding(crate::specs::Answers::said_with, crate::specs::Answers::is_refusal, crate::specs::Answers::given))]
+pub fn is_refusal(answer: Result<Answer, u32>) -> bool
+    ensures { result ≡ is_refusal (said_with answer) }
 {
     answer.is_err()
 }

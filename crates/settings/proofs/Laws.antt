@@ -16,6 +16,9 @@ use Rattle.words.proofs.Said.{none_applies}
 use Rattle.words.specs.Said.{first, refused}
 use Rattle.words.specs.Said.Said.{gives}
 use Rattle.refusals.proofs.Results.{same_given, same_refused, given_or_refused}
+use Rattle.refusals.specs.declared.Refusal.{Refusal}
+use Rattle.refusals.specs.Refusals.{number_of}
+use Rattle.refusals.proofs.Apart.{some_number}
 use Rattle.settings.specs.declared.Slacks.{Slacks}
 use Rattle.settings.specs.Answers.{three, slacks_of, judged}
 use Rattle.settings.specs.declared.Settings.{Settings}
@@ -160,6 +163,9 @@ module _ (s : Settings) where
   pub judged_refused : {k : ℕ} → (k ≡ 0 → ⊥) → k ≡ refusal_of s → refused k ≡ judged s
   unfolding judged
   judged_refused some e = rw (← e, ne_eqb _ 0 some)
+
+  pub refused_settings : (e : Refusal) → number_of e ≡ refusal_of s → refused (number_of e) ≡ judged s
+  refused_settings e = judged_refused (some_number e)
 
   pub judged_accepted : {v : Slacks} → 0 ≡ refusal_of s → gives v ≡ slacks_of s
       → gives (record { window = window s; slacks = v }) ≡ judged s

@@ -210,6 +210,7 @@ pub fn round_window(s: Settings) -> u64
 }
 
 // The settings' answer: W and the slacks of accepted settings, or the refusal.
+#[tactic(auto, using(crate::proofs::Laws::refused_settings, crate::proofs::Laws::without_slacks, crate::proofs::Laws::judged_accepted))]
 pub fn judge(s: Settings) -> Result<Accepted, Refusal>
     ensures { said_in result ≡ judged s }
 {
