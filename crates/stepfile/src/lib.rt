@@ -61,10 +61,7 @@ fn length_of(written: Result<usize, Refusal>) -> usize
 fn write_done(answer: Result<Answer, Refusal>, out: &mut [u8]) -> Result<usize, Refusal>
     ensures { (said_in result ≡ fitting (answer_line (said answer)) out.old) × (out.new ≡ filled (answer_line (said answer)) out.old) }
 {
-    match answer {
-        Ok(answer) => write_answer(Ok(answer), out),
-        Err(refusal) => write_answer(Err(u32::from(refusal)), out),
-    }
+    write_answer(answer.map_err(u32::from), out)
 }
 
 // Answers the step lines, writing from `begin` on, and gives the place behind the answers. The session's records are
