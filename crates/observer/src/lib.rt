@@ -142,6 +142,7 @@ impl Turn {
         self.accept_shared(bad)
     }
 
+    // Kept: a match, no plainer: each arm has arguments of its own, and rule 2.2 puts every refusal before any event.
     fn accept(self, event: ObserverEvent) -> Result<(), Refusal>
         ensures { number_in result ≡ first (refusals_of self.s self.o self.x self.reading event) }
     {

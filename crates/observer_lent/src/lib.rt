@@ -14,8 +14,7 @@ use observer_rules::{Observer, ObserverEvent};
 use refusals::Refusal;
 use settings::Settings;
 
-// Kept: beside the two stores of `observer::step`, since silent_request_stores, cut_after_one_does_both, stores_swapped edit these.
-
+// Kept: a function a field, by docs/DECISIONS.md, "The lent observer", and the clause of `store_first`: a cut falls between.
 #[tactic(auto, unfolding(observer_rules::specs::Observer::store))]
 fn store_deadline(o: &mut Observer, deadline: u64)
     ensures { o.new ≡ store (Store.deadline deadline) o.old }

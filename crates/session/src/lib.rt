@@ -4,13 +4,12 @@
 
 ghost use Rattle.std.specs.Prelude.{◌≡◌, set};
 ghost use Rattle.observer_rules.specs.Observer.{fresh as freshObserver};
-ghost use Rattle.standby_rules.specs.Standby.{fresh as freshStandby};
 ghost use Rattle.session.specs.Session.{started, observer_at};
 
 use observer_rules::Observer;
 use recorder_rules::{Recorder, fresh_recorder};
 use settings::{MOST_OBSERVERS, Settings};
-use standby_rules::{Standby, UNUSED};
+use standby_rules::{Standby, closed_round};
 
 // Kept: `observers` is an array: an observer's number is its place, and none above 15 has a record (rule 7.5): fixed memory.
 #[derive(Clone, Copy)]
@@ -33,18 +32,6 @@ fn fresh_observer() -> Observer
     }
 }
 
-// Kept: no plainer by a derived Default, as above; and no `closed_round`, which is in `standby`: this crate does not stand on it.
-fn fresh_standby() -> Standby
-    ensures { result ≡ freshStandby }
-{
-    Standby {
-        open_flag: false,
-        ts: 0,
-        last_reading: 0,
-        places: [UNUSED; MOST_OBSERVERS],
-    }
-}
-
 // A run starts with every field of every record 0.
 // Kept: an array of observers, as in `Session`: fixed memory.
 pub fn start(s: Settings) -> Session
@@ -54,7 +41,7 @@ pub fn start(s: Settings) -> Session
         settings: s,
         recorder: fresh_recorder(),
         observers: [fresh_observer(); MOST_OBSERVERS],
-        standby: fresh_standby(),
+        standby: closed_round(0),
     }
 }
 

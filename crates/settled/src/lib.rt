@@ -43,7 +43,7 @@ pub fn lent_settled()
     ensures { LentSettled }
 {}
 
-// The public functions of `standby_form` and `standby`.
+// The public functions of `standby_rules`, `standby_form` and `standby`.
 pub fn standby_settled()
     ensures { StandbySettled }
 {}

@@ -16,20 +16,7 @@ use messages::{Answer, Message, Status, Stepped, TOP_COUNTER, TOP_READING, Word,
 use refusals::Refusal;
 use settings::{MOST_OBSERVERS, Settings};
 use standby_form::{has_form, kept_marks};
-use standby_rules::{Place, Standby, StandbyEvent, UNUSED};
-
-// Kept: beside `fresh_standby` of `session`: that is this at reading 0, in a crate that does not stand on this one.
-fn closed_round(reading: u64) -> Standby
-    ensures { result ≡ closed reading }
-{
-    Standby {
-        open_flag: false,
-        ts: 0,
-        last_reading: reading,
-        // Kept: as many places as there can be observers: fixed memory.
-        places: [UNUSED; MOST_OBSERVERS],
-    }
-}
+use standby_rules::{Place, Standby, StandbyEvent, closed_round};
 
 // m, the greatest counter of a kept ack, or 0.
 fn greatest_kept(places: [Place; MOST_OBSERVERS]) -> u64

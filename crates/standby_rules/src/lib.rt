@@ -2,6 +2,8 @@
 // specs/Claims.antt what every step keeps and what stands behind each verdict; the code is in `standby`.
 #![tactic(auto)]
 
+ghost use Rattle.std.specs.Prelude.{◌≡◌};
+ghost use Rattle.standby_rules.specs.Standby.{closed};
 ghost use Rattle.standby_rules.specs.Claims.{FormIsKept, ClosedIsZero, VerdictsHold, DeadInWindow, KeptStays};
 
 use messages::Status;
@@ -32,6 +34,19 @@ pub struct Standby {
     // one place an observer, by number
     // Kept: as many places as there can be observers, those past n unused: fixed memory.
     pub places: [Place; MOST_OBSERVERS],
+}
+
+// No round is open, and nothing is kept: so a run starts, at reading 0, and so every round ends.
+// Kept: written out, no plainer by a derived Default, which says of each place alone that it is 0, where this is one equation.
+pub fn closed_round(reading: u64) -> Standby
+    ensures { result ≡ closed reading }
+{
+    Standby {
+        open_flag: false,
+        ts: 0,
+        last_reading: reading,
+        places: [UNUSED; MOST_OBSERVERS],
+    }
 }
 
 // What a standby is handed: rules 5.4 to 5.10.
