@@ -13,7 +13,7 @@ use Rattle.words.specs.Lists.{text}
 use Rattle.words.specs.Tests.{◌=?◌}
 use Rattle.decimals.specs.Decimals.{digits, number, number_at}
 use Rattle.fields.specs.Places.{begins, behind}
-use Rattle.fields.proofs.Rooms.{front}
+use Rattle.fields.proofs.Rooms.{front, behind_some}
 use Rattle.decimals.proofs.Reading.{read_digits}
 use Rattle.step_lines.specs.Rows.{greatest_number, row_begun}
 
@@ -30,15 +30,6 @@ number_within s value count e =
     let i = read_digits true greatest_number s value count (omega arith) e in
     let l = ap length i.front ∙ length-append (digits value) (drop count s) in
     omega (arith, l, i.count)
-
--- what stands behind a word is there only with the word
-pub behind_some : (word s rest : List ℕ) → Some rest ≡ behind word s → (begins word s ≡ true) × (rest ≡ drop (length word) s)
-unfolding behind
-behind_some word s rest = by (begins word s)
-  where
-    by : (t : Bool) → Some rest ≡ (if t then Some (drop (length word) s) else None) → (t ≡ true) × (rest ≡ drop (length word) s)
-    by true e = (refl, ap (λ o. unwrap_or o rest) e)
-    by false e = absurd (true≢false (ap is_some e))
 
 -- past the test a tab stands at p, and the part begins behind the tab
 pub tabbed : (s : List ℕ) (p : ℕ) (rest part : List ℕ) → Some part ≡ behind (text "\t") rest → rest ≡ drop p s
