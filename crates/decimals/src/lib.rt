@@ -85,13 +85,12 @@ pub fn read_number(s: &[u8], allowed: bool, greatest: u64) -> Result<Number, NoN
 pub fn digit_count(n: u64) -> usize
     ensures { result ≡ length (digits n) }
 {
-    match n.checked_ilog10() {
-        Some(power) => power as usize + 1,
-        None => 1,
-    }
+    n.checked_ilog10().map_or(1, |power| power as usize + 1)
 }
 
-// Writes the digits of `n` at the front of `out`, by calls of itself, since the last digit is found first. What stands after them is not touched.
+// Writes the digits of `n` at the front of `out`, by calls of itself, since the last digit is found first. What stands after
+// them is not touched.
+// Kept: a recursion: no plainer, because the digits of n are those of n / 10 and one more (docs/DECISIONS.md).
 fn write_digits(out: &mut [u8], n: u64) -> usize
     requires { length (digits n) ≤ length out.old }
     ensures { (result ≡ length (digits n)) × (out.new ≡ digits n ++ drop (length (digits n)) out.old) }

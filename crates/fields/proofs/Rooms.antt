@@ -253,11 +253,3 @@ behind_some word s rest e = by (begins word s) e
     by : (b : Bool) → Some rest ≡ (if b then Some (drop (length word) s) else None) → (b ≡ true) × (rest ≡ drop (length word) s)
     by true e = (refl, cc)
     by false e = cc
-
-pub behind_none : (word s : List ℕ) → None ≡ behind word s → begins word s ≡ false
-unfolding behind
-behind_none word s e = by (begins word s) e
-  where
-    by : (b : Bool) → None ≡ (if b then Some (drop (length word) s) else None) → b ≡ false
-    by true e = cc
-    by false e = refl

@@ -22,6 +22,7 @@ pub fn put_bytes(out: &mut [u8], at: usize, bytes: &[u8]) -> usize
 }
 
 // How many bytes `s` and `word` have in common at their fronts. The word stands there if it is all of its bytes.
+// Kept: public, docs/PROMISES.md names it and `FieldsSettled`, a theorem, has it; as a chain of `zip`, `take_while` and `count`: tried, the proof did not close.
 pub fn agreement(s: &[u8], word: &[u8]) -> usize
     ensures { result ≡ agree s.now word.now }
 {
@@ -34,7 +35,7 @@ pub fn agreement(s: &[u8], word: &[u8]) -> usize
 }
 
 // Does the word stand at the front?
-// Kept: the clauses of the readers above speak of `begins`; this says it of the library's test.
+// Kept: public, docs/PROMISES.md names it, `FieldsSettled`, a theorem, and the edit `starts_where_all_agrees` have it.
 #[tactic(auto, using(crate::proofs::Rooms::starts_lem))]
 pub fn starts(s: &[u8], word: &[u8]) -> bool
     ensures { result ≡ begins word.now s.now }
@@ -43,7 +44,7 @@ pub fn starts(s: &[u8], word: &[u8]) -> bool
 }
 
 // Is it the word and nothing else?
-// Kept: the clauses of the readers above speak of `is_exactly`; this says it of the library's comparison.
+// Kept: public, docs/PROMISES.md names it, `FieldsSettled`, a theorem, and the edit `exactly_with_more_behind` have it.
 #[tactic(auto, using(crate::proofs::Rooms::exactly_lem))]
 pub fn is_exactly(s: &[u8], word: &[u8]) -> bool
     ensures { result ≡ is_exactly word.now s.now }

@@ -1,7 +1,6 @@
 // Lines written into lent room: a word, or a word with one number or two behind it, and of these a message's line. The message
 // lines and the lines of answers are made of them. Each gives the line's length, or refusal 10, the room being too short.
-// Serves rules 6.4 and 6.6.
-// What is written stands in `lines_rules`.
+// Serves rules 6.4 and 6.6. What is written stands in `lines_rules`.
 #![tactic(auto)]
 
 ghost use Rattle.std.specs.Prelude.{◌≡◌};

@@ -20,7 +20,7 @@ use refusals::Refusal;
 fn only_number(s: &[u8], allowed: bool, greatest: u64) -> Result<u64, Refusal>
     ensures { result ≡ value_of (only_number allowed greatest s.now) }
 {
-    let number = read_number(s, allowed, greatest).or(Err(Refusal::BadLine))?;
+    let number = read_number(s, allowed, greatest).map_err(|_| Refusal::BadLine)?;
     if is_exactly(part_from(s, number.length), b"\n") {
         Ok(number.value)
     } else {
@@ -46,7 +46,7 @@ fn read_ack_counter(ts: u64, s: &[u8]) -> Result<Message, Refusal>
     ensures { said_in result ≡ read_ack_counter ts s.now }
 {
     let field = after(s, b"\t").ok_or(Refusal::BadLine)?;
-    let number = read_number(field, true, messages::TOP_COUNTER).or(Err(Refusal::BadLine))?;
+    let number = read_number(field, true, messages::TOP_COUNTER).map_err(|_| Refusal::BadLine)?;
     read_ack_status(ts, number.value, part_from(field, number.length))
 }
 
@@ -54,7 +54,7 @@ fn read_ack_counter(ts: u64, s: &[u8]) -> Result<Message, Refusal>
 fn read_ack(s: &[u8]) -> Result<Message, Refusal>
     ensures { said_in result ≡ read_ack s.now }
 {
-    let number = read_number(s, true, messages::TOP_READING).or(Err(Refusal::BadLine))?;
+    let number = read_number(s, true, messages::TOP_READING).map_err(|_| Refusal::BadLine)?;
     read_ack_counter(number.value, part_from(s, number.length))
 }
 

@@ -25,23 +25,10 @@ mod show;
 use rack::Rack;
 use streams::read_input;
 
-// What the line does, by its first letter: it shows something, or changes the rack.
-// Kept: no plainer, because a line's letter is all that says what it does.
-fn perform(rt: &impl Print, held: &mut Rack, line: &[u8]) {
-    match line.first() {
-        Some(b'#') => show::text(rt, line),
-        Some(b'<') => lines_alone::read(rt, line),
-        Some(b'w') => lines_alone::write(rt, rack::numbers(line)),
-        Some(b'S') => act::settle(rt, held, line),
-        Some(b'R' | b'O' | b'Q') => act::step(rt, held, line),
-        _ => rack::set(rt, held, line),
-    }
-}
-
 fn run(rt: &impl Print, input: &[u8]) {
     let mut held = Rack::default();
     for line in input.split_inclusive(|byte| *byte == b'\n') {
-        perform(rt, &mut held, line);
+        held.perform(rt, line);
     }
 }
 

@@ -16,35 +16,24 @@ pub struct Rack {
     pub standby: Standby,
 }
 
-// A number of the line, and the place behind its tab; 0 where none stands.
-#[derive(Clone, Copy)]
-struct Taken {
-    value: u64,
-    behind: usize,
+// The number of the line that stands at `at`, and the place behind its tab.
+fn number_at(line: &[u8], at: usize) -> Option<(u64, usize)> {
+    let number = read_number(part_from(line, at), true, u64::MAX).ok()?;
+    let end = at.saturating_add(number.length);
+    Some((number.value, end.saturating_add(1)))
 }
 
-fn number_at(line: &[u8], at: usize) -> Taken {
-    match read_number(part_from(line, at), true, u64::MAX) {
-        Ok(number) => Taken {
-            value: number.value,
-            behind: at.saturating_add(number.length).saturating_add(1),
-        },
-        Err(_) => Taken {
-            value: 0,
-            behind: at,
-        },
-    }
-}
-
-// The numbers behind the line's letter, each behind one tab; 0 for one that is not there.
+// The numbers behind the line's letter, each behind one tab; 0 for one that is not there, and for those after it.
 // Kept: an array that is filled: fixed memory, no heap.
 pub fn numbers(line: &[u8]) -> [u64; 7] {
     let mut found = [0; 7];
     let mut at: usize = 2;
     for number in &mut found {
-        let taken = number_at(line, at);
-        *number = taken.value;
-        at = taken.behind;
+        let Some((value, behind)) = number_at(line, at) else {
+            break;
+        };
+        *number = value;
+        at = behind;
     }
     found
 }
@@ -116,21 +105,23 @@ fn store<T: Copy, const N: usize>(row: &mut [T; N], place: u64, value: T) {
     }
 }
 
-// Does what a line that sets a record, or a part of one, says.
-// Kept: no plainer, because a line's letter is all that says what it does.
-pub fn set(rt: &impl Print, held: &mut Rack, line: &[u8]) {
-    let v = numbers(line);
-    match line.first() {
-        Some(b'r') => held.recorder = recorder_of(v),
-        Some(b's') => store(&mut held.recorder.sends, v[0], v[1]),
-        Some(b'g') => store(&mut held.recorder.grants, v[0], v[1]),
-        Some(b'o') => held.observer = observer_of(v),
-        Some(b'z') => {
-            held.observer = observer::restart(held.observer);
-            held.observer.show(rt);
+impl Rack {
+    // Does what a line that sets a record, or a part of one, says.
+    // Kept: a match that calls: no plainer as a table, because each letter sets a place of another type.
+    pub fn set(&mut self, rt: &impl Print, line: &[u8]) {
+        let v = numbers(line);
+        match line.first() {
+            Some(b'r') => self.recorder = recorder_of(v),
+            Some(b's') => store(&mut self.recorder.sends, v[0], v[1]),
+            Some(b'g') => store(&mut self.recorder.grants, v[0], v[1]),
+            Some(b'o') => self.observer = observer_of(v),
+            Some(b'z') => {
+                self.observer = observer::restart(self.observer);
+                self.observer.show(rt);
+            }
+            Some(b'q') => self.standby = standby_of(v),
+            Some(b'p') => store(&mut self.standby.places, v[0], place_of(v[1], v[2], v[3])),
+            _ => {}
         }
-        Some(b'q') => held.standby = standby_of(v),
-        Some(b'p') => store(&mut held.standby.places, v[0], place_of(v[1], v[2], v[3])),
-        _ => {}
     }
 }

@@ -1,5 +1,5 @@
 -- A row stays within its line.
-use Rattle.std.specs.Prelude.{Result, Ok, Err, is_some, unwrap_or, Some, None, if◌then◌else◌}
+use Rattle.std.specs.Prelude.{Result, Ok, Err, is_some, unwrap_or, Some, None, if◌then◌else◌, option_map, set}
 use Rattle.std.specs.Result.{result_ok}
 use Prim.Native.Nat.{ℕ, zero, suc, ◌+◌, ◌≤◌, ◌<◌}
 use native.Mathlib.Omega.{arith}
@@ -13,9 +13,13 @@ use Rattle.words.specs.Lists.{text}
 use Rattle.words.specs.Tests.{◌=?◌}
 use Rattle.decimals.specs.Decimals.{digits, number, number_at}
 use Rattle.fields.specs.Places.{begins, behind}
-use Rattle.fields.proofs.Rooms.{front}
+use Rattle.fields.proofs.Rooms.{front, behind_some}
 use Rattle.decimals.proofs.Reading.{read_digits}
-use Rattle.step_lines.specs.Rows.{greatest_number, row_begun}
+use Rattle.step_lines.specs.declared.Row.{Row}
+use Rattle.step_lines.specs.declared.Tabbed.{Tabbed}
+use Rattle.decimals.specs.declared.Number.{Number}
+use Rattle.decimals.specs.declared.NoNumber.{NoNumber}
+use Rattle.step_lines.specs.Rows.{greatest_number, row_begun, extended, with_number, tabbed_of, tabbed_number}
 
 -- a tab that stands at p is within the line
 pub tab_within : (s : List ℕ) (p : ℕ) → begins (text "\t") (drop p s) ≡ true → p < length s
@@ -31,15 +35,6 @@ number_within s value count e =
     let l = ap length i.front ∙ length-append (digits value) (drop count s) in
     omega (arith, l, i.count)
 
--- what stands behind a word is there only with the word
-pub behind_some : (word s rest : List ℕ) → Some rest ≡ behind word s → (begins word s ≡ true) × (rest ≡ drop (length word) s)
-unfolding behind
-behind_some word s rest = by (begins word s)
-  where
-    by : (t : Bool) → Some rest ≡ (if t then Some (drop (length word) s) else None) → (t ≡ true) × (rest ≡ drop (length word) s)
-    by true e = (refl, ap (λ o. unwrap_or o rest) e)
-    by false e = absurd (true≢false (ap is_some e))
-
 -- past the test a tab stands at p, and the part begins behind the tab
 pub tabbed : (s : List ℕ) (p : ℕ) (rest part : List ℕ) → Some part ≡ behind (text "\t") rest → rest ≡ drop p s
     → (begins (text "\t") (drop p s) ≡ true) × (part ≡ drop (p + 1) s)
@@ -51,6 +46,21 @@ tabbed s p rest part e f =
 pub was_read : {A E : Type 0} (read : Result A E) (a : A) → Some a ≡ result_ok read → read ≡ Ok a
 was_read (Ok b) a e = sym (ap (λ o. Ok (unwrap_or o a)) e)
 was_read (Err missing) a e = absurd (true≢false (ap is_some e))
+
+-- the row with one number more is the one that the next tab gives, put at its place
+abbrev put_next : {n : ℕ} → Row n → (k : ℕ) → Tabbed → Row n
+put_next r k t = record { behind = t.behind; numbers = set r.numbers k t.value }
+
+pub extended_by : {n : ℕ} (s : List ℕ) (r : Row n) (k : ℕ) → extended s r k ≡ option_map (put_next r k) (tabbed_number s r.behind)
+unfolding extended with_number tabbed_number
+extended_by s r k = by (begins (text "\t") (drop r.behind s)) (number_at true greatest_number (drop (r.behind + 1) s))
+  where
+    by : (t : Bool) (v : Result Number NoNumber)
+        → (if t then with_number (r.behind + 1) k r v else None)
+        ≡ option_map (put_next r k) (if t then option_map (tabbed_of (r.behind + 1)) (result_ok v) else None)
+    by true (Ok n) = refl
+    by true (Err missing) = refl
+    by false v = refl
 
 -- where a number is missing, so is the row
 pub none_stays : (all : ℕ) (s : List ℕ) (k count : ℕ) → k ≤ count → row_begun all s k ≡ None → row_begun all s count ≡ None

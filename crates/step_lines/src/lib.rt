@@ -4,7 +4,7 @@
 #![tactic(auto)]
 
 ghost use Rattle.std.specs.Prelude.{◌≡◌, ◌<◌, ◌≤◌, option_map};
-ghost use Rattle.step_lines.specs.Rows.{extended, row};
+ghost use Rattle.step_lines.specs.Rows.{tabbed_number, row};
 ghost use Rattle.step_lines.specs.Reading.{behind_row, last_numbers, settings_numbers, settings_line, grant_numbers, recorder_event, cut_numbers, request_end, request_numbers, check_numbers, observer_event, ack_numbers, standby_event, step_line};
 
 use decimals::read_number;
@@ -31,38 +31,42 @@ pub struct Row<const N: usize> {
     pub numbers: [u64; N],
 }
 
-// The row with its k-th number.
-#[tactic(auto, unfolding(crate::specs::Rows::extended, crate::specs::Rows::with_number, fields::specs::Places::behind))]
-fn extend<const N: usize>(s: &[u8], row: Row<N>, k: usize) -> Option<Row<N>>
-    requires { k < N }
-    ensures { result ≡ extended s.now row.entry k }
+// A number of a row, and the place behind it.
+#[derive(Clone, Copy)]
+struct Tabbed {
+    value: u64,
+    behind: usize,
+}
+
+// The number behind the tab at `at`.
+#[tactic(auto, unfolding(crate::specs::Rows::tabbed_number, fields::specs::Places::behind))]
+fn number_behind(s: &[u8], at: usize) -> Option<Tabbed>
+    ensures { result ≡ tabbed_number s.now at }
 {
-    let part = after(part_from(s, row.behind), b"\t")?;
+    let part = after(part_from(s, at), b"\t")?;
     let number = read_number(part, true, u64::MAX).ok()?;
-    let mut numbers = row.numbers;
-    numbers[k] = number.value;
-    Some(Row {
-        behind: row.behind + 1 + number.length,
-        numbers,
+    Some(Tabbed {
+        value: number.value,
+        behind: at + 1 + number.length,
     })
 }
 
 // The numbers at the front, `N` of them.
-// Kept: a loop over places: no plainer without k, because k is the place in the array that `extend` writes at: fixed memory.
 fn row_of<const N: usize>(s: &[u8]) -> Option<Row<N>>
     ensures { result ≡ row s.now N }
 {
-    let mut found = Row {
-        behind: 0,
-        numbers: [0; N],
-    };
-    for k in 0..N {
-        found = extend(s, found, k)?;
+    let mut numbers = [0; N];
+    let mut behind = 0;
+    for number in &mut numbers {
+        let found = number_behind(s, behind)?;
+        *number = found.value;
+        behind = found.behind;
     }
-    Some(found)
+    Some(Row { behind, numbers })
 }
 
-// The numbers at the front, `N` of them, and what stands behind them.
+// The numbers at the front, `N` of them, and what stands behind them. Here and below `N` has its bound, since a row takes
+// memory by it.
 fn numbers_of<const N: usize>(s: &[u8]) -> Option<([u64; N], &[u8])>
     requires { N ≤ 7 }
     ensures numbers { option_map (λ found. found.0) result ≡ option_map (λ v. v.numbers) (row s.now N) }

@@ -4,5 +4,5 @@ use Rattle.std.specs.Prelude.{Some}
 use Rattle.step_lines.specs.Rows.{row_begun}
 use Rattle.step_lines.proofs.row_of.Given as goal
 
-abbrev pub invariant-loop-k : goal.invariant-loop-k
-invariant-loop-k g l = row_begun g.row.N l.s l.k ≡ Some l.found
+abbrev pub invariant-loop-number : goal.invariant-loop-number
+invariant-loop-number g l = row_begun g.row.N l.s l.number-index ≡ Some (record { behind = l.behind; numbers = l.number-items })
