@@ -17,12 +17,12 @@ const SENDS_AT: usize = 40;
 const GRANTS_AT: usize = 552;
 
 // As many words as are asked for, from the front of a part.
+// Kept: `chunks[i]`: tried by `from_fn` (it says nothing of what its closure captures for any N) and by `zip`; the proof did not close.
 fn words_at<const N: usize>(b: &[u8]) -> [u64; N]
     requires { 8 * N ≤ length b.now }
     ensures { result ≡ words_at N b.now }
 {
     let (chunks, _) = b.as_chunks::<8>();
-    // Kept: tried, the proof did not close: `from_fn` says nothing of what its closure captures where N is a parameter.
     let mut words = [0u64; N];
     for (i, word) in words.iter_mut().enumerate() {
         *word = u64::from_le_bytes(chunks[i]);
@@ -57,6 +57,7 @@ fn put_word(b: &mut [u8], at: usize, word: u64)
 }
 
 // Puts words behind one another from `at` on.
+// Kept: `at + 8 * i`: tried, the proof did not close: the library's `as_chunks_mut` says nothing of what its slice ends as.
 #[tactic(auto, using(fields::proofs::Rooms::put_nothing, firmware_rules::proofs::Words::puts_next), unfolding(firmware_rules::specs::Bytes::bytes_of))]
 fn put_words(b: &mut [u8], at: usize, words: &[u64])
     requires { at + 8 * length words.now ≤ length b.old }
