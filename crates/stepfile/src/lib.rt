@@ -77,7 +77,7 @@ fn answer_steps(lines: &[u8], s: Settings, out: &mut [u8], begin: usize) -> usiz
     let mut asking = begun.standby;
     let mut rest = lines;
     let mut at = begin;
-    // Kept: no plainer, because `split_inclusive` of a slice promises each step of its own, and not what lines the whole gives.
+    // Kept: tried, the proof did not close by `split_inclusive`: its clause speaks of each step, and not of all lines of a slice.
     while !rest.is_empty() {
         let (line, behind) = split_line(rest);
         let answer = match read_step_line(line) {

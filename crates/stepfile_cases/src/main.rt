@@ -13,7 +13,7 @@ fn put(rt: &impl Print, bytes: &[u8]) {
     let _ = rt.write_all(bytes);
 }
 
-// Kept: no plainer, because a result is matched to print either outcome.
+// Kept: no plainer by `map_or`, because that wants a closure around `out.get(..count)` and the words cut to a slice.
 fn answer(rt: &impl Print, file: &[u8], out: &mut [u8]) {
     match answer_file(file, out) {
         Ok(count) => put(rt, out.get(..count).unwrap_or(&[])),
@@ -23,7 +23,7 @@ fn answer(rt: &impl Print, file: &[u8], out: &mut [u8]) {
 }
 
 // A file goes up to its `=`, behind which it has a line feed, or to the input's end.
-// Kept: no counted loop; `split` would look for the next `=` in the line feed's place too.
+// Kept: no plainer with `split`, because the line feed behind each `=` would have to be cut from the next file's front.
 fn answer_each(rt: &impl Print, input: &[u8], out: &mut [u8]) {
     let mut rest = input;
     while !rest.is_empty() {
