@@ -55,6 +55,7 @@ fn number_behind(s: &[u8], at: usize) -> Option<Tabbed>
 fn row_of<const N: usize>(s: &[u8]) -> Option<Row<N>>
     ensures { result ≡ row s.now N }
 {
+    // Kept: an array that a loop fills: fixed memory, and how many there are is in its type.
     let mut numbers = [0; N];
     let mut behind = 0;
     for number in &mut numbers {
