@@ -29,8 +29,8 @@ pub enum Advanced {
 }
 
 // The observers that have granted more than `number`.
-// Kept: a loop over places: `grants.map` proves, but misses the bar of speed: with it a step at which 64 leases end takes 3.6 times
-// as long as the twin's in `bench/firmware`, and with this 1.1 times.
+// Kept: a loop over places: `grants.map` proves, but misses the bar of speed (docs/FIGURES.md, 1.17 to 1.32 times the twin's time where
+// 64 leases end at one step): with it `bench/firmware` gives 3.6, with this 1.1.
 fn granted_above(grants: [u64; MOST_OBSERVERS], number: u64) -> [bool; MOST_OBSERVERS]
     ensures { result ≡ map (λ grant. number <? grant) grants }
 {
@@ -51,6 +51,7 @@ pub fn is_granted_above(s: Settings, rec: Recorder, number: u64) -> bool
 // Each open lease i with reading - send ≥ P has ended: lease i + 1 must then have its grants. Gives the leases that have not
 // ended, or None where one that has lacks them. One pass; a quorum is counted only for leases that have ended.
 // Kept: `sends` with its count beside it, as in the record that they go into: the C interface.
+// Kept: `enumerate`: no plainer without i, because a lease's number is made of it.
 fn sift(s: Settings, rec: Recorder, reading: u64) -> Option<Left>
     ensures { result ≡ sifted s rec reading }
 {

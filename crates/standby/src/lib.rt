@@ -19,6 +19,7 @@ use standby_form::{has_form, kept_marks};
 use standby_rules::{Place, Standby, StandbyEvent, closed_round};
 
 // m, the greatest counter of a kept ack, or 0.
+// Kept: a fold: no plainer by `.max().unwrap_or(0)`, since m is 0 where nothing is kept, which is what the fold begins with.
 fn greatest_kept(places: [Place; MOST_OBSERVERS]) -> u64
     ensures { result ≡ greatest_by_chain places }
 {
@@ -38,7 +39,7 @@ fn some_dead(places: [Place; MOST_OBSERVERS], m: u64) -> bool
 }
 
 // The verdict at a quorum: the greatest counter decides, never a count of statuses.
-// Kept: a match, since it chooses a word by m and by a test, not a function by a kind.
+// Kept: a match: no plainer otherwise, because it chooses a word by m and by a test, not a function by a kind.
 #[tactic(auto, using(crate::proofs::Greatest::chain_is_greatest), unfolding(standby_rules::specs::Standby::verdict, messages::specs::Answers::words_of))]
 fn judge(places: [Place; MOST_OBSERVERS]) -> Word
     ensures { speaks (words_of result) ≡ verdict places }
@@ -230,7 +231,7 @@ impl Turn {
     }
 
     // What an accepted event does.
-    // Kept: a match of its own beside `accept`'s, as said there.
+    // Kept: a match of its own beside `accept`'s: no plainer as one, because rule 2.2 puts every refusal before any event.
     fn perform(self, event: StandbyEvent) -> Stepped<Standby>
         requires { Ready event }
         ensures { outcome result ≡ event_within (window self.s) self.s self.q self.reading event }
