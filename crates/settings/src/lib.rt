@@ -89,8 +89,7 @@ pub struct Accepted {
 }
 
 // The settings from their seven numbers in a row.
-// Kept: a function and no `From`: what may not change: it is public, docs/PROMISES.md names it, and SettingsSettled has it.
-// Kept: by its place: no plainer by a pattern, which would name each setting twice more.
+// Kept: a function and no `From`, since SettingsSettled of `settled` has a row for it.
 pub fn settings_of(values: [u64; 7]) -> Settings
     ensures { result ≡ settings_of values }
 {
