@@ -4,7 +4,7 @@
 ghost use Rattle.std.specs.Prelude.{◌≡◌, ◌+◌, ◌≤◌, [], length};
 ghost use Rattle.fields.specs.Places.{put_at};
 ghost use Rattle.refusals.specs.Refusals.{said_in};
-ghost use Rattle.messages.specs.Answers.{said_with, sends, speaks, words_of};
+ghost use Rattle.messages.specs.Answers.{said, said_with, sends, speaks, words_of};
 ghost use Rattle.lines_rules.specs.Writing.{fitting, filled, one_number};
 ghost use Rattle.answer_lines.specs.Answers.{answer_line, settings_answer};
 ghost use Rattle.answer_lines.specs.Parts.{value_part, values_line};
@@ -65,6 +65,14 @@ pub fn write_answer(answer: Result<Answer, u32>, out: &mut [u8]) -> Result<usize
         Ok(Answer::Say(word)) => write_said(word, out),
         Err(number) => write_refusal(number, out),
     }
+}
+
+// The same for what a step answers: its refusal comes by name.
+#[tactic(auto, unfolding(messages::specs::Answers::said, messages::specs::Answers::said_with))]
+pub fn write_step_answer(answer: Result<Answer, Refusal>, out: &mut [u8]) -> Result<usize, Refusal>
+    ensures { (said_in result ≡ fitting (answer_line (said answer)) out.old) × (out.new ≡ filled (answer_line (said answer)) out.old) }
+{
+    write_answer(answer.map_err(u32::from), out)
 }
 
 // Writes a value behind its tab and gives the next place.

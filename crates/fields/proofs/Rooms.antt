@@ -1,22 +1,20 @@
 -- Laws of room that is written to, and of words at the front.
 use Rattle.std.specs.Prelude.{if◌then◌else◌}
 use Prim.Native.Nat.{ℕ, zero, suc, ◌+◌, ◌-◌, ◌≤◌, ◌<◌}
-use native.Mathlib.Nat.{not-suc-le-zero, le_of_suc-le-suc}
+use native.Mathlib.Nat.{not-suc-le-zero, le_of_suc-le-suc, le_refl}
 use native.Mathlib.Numerals.{add-one}
 use native.Mathlib.Omega.{arith}
 use mathlib.Core.Path.{◌≡◌, refl, sym, ap, ap₂, ◌∙◌}
-use mathlib.Core.Bool.{Bool, true, false, ◌&&◌, not, and_assoc}
+use mathlib.Core.Bool.{Bool, true, false, ◌&&◌, and_assoc}
 use lib.Dec.{eqb-zero-suc, eqb-suc-zero, eqb-suc-suc}
 use lib.Pointwise.{pointwise}
-use denote.Bor.{Bor}
-use Rattle.std.specs.Prelude.{Option, None, Some, MatchOption, option_copied}
-use Rattle.std.specs.Option.{option_eq}
+use Rattle.std.specs.Prelude.{None, Some}
 use mathlib.Core.List.{List, [], ◌∷◌, ◌++◌, append_assoc, append-nil}
 use lib.ListN.{length, take, drop, get_or, set, length-append, length-take, length-drop, drop_of_length-le}
 use borrow.Rule.Slice.PartMut.{put_mid}
 use lib.Seq.{drop-cons, set-append_seam, length-take-le, paste-zero, take_all, take-append_seam, drop-append-add, drop-drop}
-use borrow.Author.Tests.{le-leb, lt-leb, leb-true, eqb-true, eqb-false, eq-eqb, ne_eqb}
-use Rattle.std.specs.List.{starts_with, HoldsAt}
+use borrow.Author.Tests.{le-leb, lt-leb, leb-true, eqb-true}
+use Rattle.std.proofs.lemmas.Slice.{take-put_mid_below, drop-put_mid}
 use Rattle.words.specs.Tests.{◌≤?◌, ◌=?◌}
 use Rattle.fields.specs.Places.{put_at, next_place, agree, begins, behind, is_exactly}
 
@@ -107,13 +105,6 @@ agree_by : (b : Bool) (k n : ℕ) → ((if b then suc k else 0) =? suc n) ≡ (b
 agree_by true k n = eqb-suc-suc k n
 agree_by false k n = eqb-zero-suc n
 
-turned : (a b : ℕ) → (a =? b) ≡ (b =? a)
-turned a b = by (a =? b) refl
-  where
-    by : (t : Bool) → (a =? b) ≡ t → t ≡ (b =? a)
-    by true e = sym (eq-eqb b a (sym (eqb-true a b e)))
-    by false e = sym (ne_eqb b a (λ p. eqb-false a b e (sym p)))
-
 -- one byte of agreement
 pub agree_next : (s word : List ℕ) (i : ℕ) → i < length s → i < length word
     → agree (drop i s) (drop i word)
@@ -134,24 +125,6 @@ pub agree_none : (word : List ℕ) → agree [] word ≡ 0
 unfolding agree
 agree_none [] = refl
 agree_none (letter ∷ letters) = refl
-
--- what a look at the word's byte at i has told of it: none stands there, or another, or the same
-pub agree_at : (s word : List ℕ) (i : ℕ) (found : Option (Bor ℕ)) (byte : Bor ℕ) (other : Bool) → i < length s
-    → byte.now ≡ get_or s i 0
-    → MatchOption found (length word ≤ i) (λ letter. (i < length word) × HoldsAt (λ y. letter.now ≡ y) word i)
-    → other ≡ not (option_eq (λ x y. x.now =? y.now) found (Some byte))
-    → agree (drop i s) (drop i word) ≡ (if other then 0 else suc (agree (drop (i + 1) s) (drop (i + 1) word)))
-agree_at s word i None byte other h b m e = rw (e, agree_end s word i m)
-agree_at s word i (Some letter) byte other h b m e =
-    let same : (letter.now =? byte.now) ≡ (get_or s i 0 =? get_or word i 0) =
-    turned letter.now byte.now ∙ ap₂ ◌=?◌ b (m.1 0) in
-    agree_next s word i h m.0 ∙ by (get_or s i 0 =? get_or word i 0) other (e ∙ ap not same)
-  where
-    by : (t o : Bool) → o ≡ not t
-        → (if t then suc (agree (drop (i + 1) s) (drop (i + 1) word)) else 0)
-        ≡ (if o then 0 else suc (agree (drop (i + 1) s) (drop (i + 1) word)))
-    by true o e = rw e
-    by false o e = rw e
 
 -- a word that agrees whole stands at the front
 pub agree_front : (s word : List ℕ) → agree s word ≡ length word → s ≡ word ++ drop (length word) s
@@ -197,28 +170,7 @@ put_part room at bytes h =
     let e = drop_of_length-le (drop at room) {i = length room - at} (rw (length-drop at room) (omega arith)) in
     rw (part_from_lem at room, e, put_fits room at bytes h, drop-drop (length bytes) at room, append-nil, append_assoc)
 
--- ---- the library's tests are ours
-
--- as `strip_prefix` compares
-pub front_lem : (s word : List ℕ) → pointwise ◌=?◌ (take (length word) s) word ≡ begins word s
-unfolding begins agree
-front_lem [] [] = refl
-front_lem (byte ∷ bytes) [] = refl
-front_lem [] (letter ∷ letters) = sym (eqb-zero-suc (length letters))
-front_lem (byte ∷ bytes) (letter ∷ letters) =
-    ap (λ (b : Bool). (byte =? letter) && b) (front_lem bytes letters)
-    ∙ sym (agree_by (byte =? letter) (agree bytes letters) (length letters))
-
--- as `starts_with` compares
-pub starts_lem : (s word : List ℕ) → starts_with ◌=?◌ s word ≡ begins word s
-unfolding begins agree
-starts_lem s [] = refl
-starts_lem [] (letter ∷ letters) = sym (eqb-zero-suc (length letters))
-starts_lem (byte ∷ bytes) (letter ∷ letters) =
-    ap₂ ◌&&◌ (turned letter byte) (starts_lem bytes letters)
-    ∙ sym (agree_by (byte =? letter) (agree bytes letters) (length letters))
-
--- as `==` compares
+-- ---- the library's test is ours: as `==` compares
 pub exactly_lem : (s word : List ℕ) → pointwise ◌=?◌ s word ≡ is_exactly word s
 unfolding is_exactly begins agree
 exactly_lem [] [] = refl
@@ -236,16 +188,16 @@ put_middle room at bytes h =
     let e : at + length bytes - at ≡ length bytes = omega arith in
     rw (e, put_fits room at bytes h, drop-drop (length bytes) at room, append_assoc)
 
--- what `strip_prefix` gives is what stands behind the word
-pub behind_lem : (word s : List ℕ) (r : Option (Bor (List ℕ)))
-    → MatchOption r (pointwise ◌=?◌ (take (length word) s) word ≡ false)
-    (λ x. (pointwise ◌=?◌ (take (length word) s) word ≡ true) × (x.now ≡ drop (length word) s) × (length x.now + length word ≡ length s))
-    → option_copied r ≡ behind word s
-unfolding behind
-behind_lem word s None h = rw (sym (front_lem s word) ∙ h)
-behind_lem word s (Some x) h = rw (sym (front_lem s word) ∙ h.0, h.1)
+-- what was written in the middle is gone where it is written over
+pub put_again : (room : List ℕ) (at n : ℕ) (one other : List ℕ) → at + n ≤ length room → length one ≡ n
+    → put_mid at n (put_mid at n room one) other ≡ put_mid at n room other
+put_again room at n one other h e =
+    let front = take-put_mid_below at n room one at (le_refl at) (omega arith) in
+    let rest : drop n (drop at (put_mid at n room one)) ≡ drop n (drop at room) =
+    drop-drop n at (put_mid at n room one) ∙ drop-put_mid at n room one (at + n) (le_refl (at + n)) (omega arith) e ∙ sym (drop-drop n at room) in
+    ap₂ (λ (l m : List ℕ). l ++ (other ++ m)) front rest
 
--- and what a caller learns of it
+-- what a caller learns of what stands behind a word
 pub behind_some : (word s rest : List ℕ) → Some rest ≡ behind word s → (begins word s ≡ true) × (rest ≡ drop (length word) s)
 unfolding behind
 behind_some word s rest e = by (begins word s) e

@@ -6,7 +6,7 @@ ghost use Rattle.std.specs.Prelude.{◌≡◌, drop, option_copied};
 ghost use Rattle.fields.specs.Places.{agree, begins, behind, is_exactly, put_at, next_place};
 
 // Writes the bytes from `at` on and gives the next place; without room for them all it writes nothing and gives `at`.
-#[tactic(auto, using(crate::proofs::Rooms::put_middle, crate::proofs::Rooms::next_fits, crate::proofs::Rooms::put_not, crate::proofs::Rooms::next_not))]
+#[tactic(auto, using(crate::proofs::Rooms::put_middle, crate::proofs::Rooms::put_again, crate::proofs::Rooms::next_fits, crate::proofs::Rooms::put_not, crate::proofs::Rooms::next_not))]
 pub fn put_bytes(out: &mut [u8], at: usize, bytes: &[u8]) -> usize
     ensures { (result ≡ next_place out.old at bytes.now) × (out.new ≡ put_at out.old at bytes.now) }
 {
@@ -27,7 +27,11 @@ pub fn agreement(s: &[u8], word: &[u8]) -> usize
     ensures { result ≡ agree s.now word.now }
 {
     for (i, byte) in s.iter().enumerate() {
-        if word.get(i) != Some(byte) {
+        if word.len() <= i {
+            return i;
+        }
+        let letter = word[i];
+        if *byte != letter {
             return i;
         }
     }
@@ -35,12 +39,12 @@ pub fn agreement(s: &[u8], word: &[u8]) -> usize
 }
 
 // Does the word stand at the front?
-// Kept: public, docs/PROMISES.md names it, `FieldsSettled`, a theorem, and the edit `starts_where_all_agrees` have it.
-#[tactic(auto, using(crate::proofs::Rooms::starts_lem))]
+// Kept: not the library's `starts_with`: what reads lines goes by `agreement`, which docs/PROMISES.md names.
+#[tactic(auto, unfolding(crate::specs::Places::begins))]
 pub fn starts(s: &[u8], word: &[u8]) -> bool
     ensures { result ≡ begins word.now s.now }
 {
-    s.starts_with(word)
+    agreement(s, word) == word.len()
 }
 
 // Is it the word and nothing else?
@@ -60,9 +64,13 @@ pub fn part_from(s: &[u8], at: usize) -> &[u8]
 }
 
 // What stands behind the word, if the word stands at the front.
-#[tactic(auto, using(crate::proofs::Rooms::behind_lem))]
+#[tactic(auto, unfolding(crate::specs::Places::behind))]
 pub fn after<'a>(s: &'a [u8], word: &[u8]) -> Option<&'a [u8]>
     ensures { option_copied result ≡ behind word.now s.now }
 {
-    s.strip_prefix(word)
+    if starts(s, word) {
+        Some(part_from(s, word.len()))
+    } else {
+        None
+    }
 }

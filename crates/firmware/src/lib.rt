@@ -4,11 +4,11 @@
 
 ghost use Rattle.std.specs.Prelude.{◌≡◌};
 ghost use Rattle.settings.specs.Settings.{settings_of};
-ghost use Rattle.messages.specs.Answers.{said, speaks, words_of};
+ghost use Rattle.messages.specs.Answers.{said, speaks, words_of, is_refusal};
 ghost use Rattle.recorder_rules.specs.declared.RecorderEvent.TheVariants.{Tick, Grant, Drive};
 ghost use Rattle.firmware_rules.specs.Calls.{code_of, called};
 
-use messages::{Answer, Word};
+use messages::{Answer, Word, is_refusal};
 use record_bytes::{RECORD_BYTES, put_record, record_in};
 use recorder::step;
 use recorder_rules::RecorderEvent;
@@ -41,6 +41,14 @@ fn code_of(answer: Result<Answer, Refusal>) -> u32
     }
 }
 
+// Is the step refused?
+#[tactic(auto, unfolding(messages::specs::Answers::said, messages::specs::Answers::said_with))]
+fn is_refused(answer: Result<Answer, Refusal>) -> bool
+    ensures { result ≡ is_refusal (said answer) }
+{
+    is_refusal(answer.map_err(u32::from))
+}
+
 // The step on the record that the buffer holds: a refused one writes no byte, any other its whole record (rule 8.4). A call
 // judges the settings once: here before the size of a buffer that holds no record (rule 8.2), otherwise in the step.
 fn perform(
@@ -57,9 +65,12 @@ fn perform(
     }
     let rec = record_in(&buffer[..]);
     let done = step(s, rec, reading, event);
-    let answer = done.answer?;
+    let answer = done.answer;
+    if is_refused(answer) {
+        return answer;
+    }
     put_record(&mut buffer[..], done.rec);
-    Ok(answer)
+    answer
 }
 
 // Kept: the C interface has numbers (rule 8.3).

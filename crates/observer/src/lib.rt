@@ -241,8 +241,7 @@ pub fn step(
 ) -> Stepped<Observer>
     ensures { outcome result ≡ step_of s o x reading event }
 {
-    let turn = Turn { s, o, x, reading };
-    match turn.plan(event) {
+    match plan_of(s, o, x, reading, event) {
         Ok(plan) => Stepped {
             answer: Ok(plan.answer),
             rec: left_by(plan, o),

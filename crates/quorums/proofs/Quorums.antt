@@ -1,35 +1,62 @@
 -- Sets of observers: quorums meet, none is lost as a set grows, and nobody is none.
-use Rattle.std.specs.Prelude.{if◌then◌else◌, cond}
-use Rattle.std.specs.List.{count_by}
-use Rattle.std.proofs.lemmas.List.Recursion.{is_count_by}
-use Prim.Native.Nat.{ℕ, zero, suc, ◌+◌, ◌-◌, ◌<◌, ◌≤◌}
+use Rattle.std.specs.Prelude.{if◌then◌else◌, ◌%◌}
+use Rattle.std.specs.List.{fold, enumerate_from}
+use Rattle.std.specs.Int.{from_bool}
+use Prim.Native.Nat.{ℕ, zero, suc, ◌+◌, ◌-◌, ◌<◌, ◌≤◌, ◌^◌}
 use native.Mathlib.Omega.{arith}
-use native.Mathlib.Nat.{le_refl, le_trans}
-use mathlib.Core.Path.{◌≡◌, refl, sym}
-use mathlib.Core.Bool.{Bool, true, false, not}
+use native.Mathlib.Nat.{le_refl, le_trans, zero-add}
+use Rattle.std.proofs.Math.Nat.{mod-eq_of_lt}
+use mathlib.Core.Path.{◌≡◌, refl, ◌∙◌}
+use mathlib.Core.Bool.{Bool, true, false, not, ◌&&◌}
 use mathlib.Core.List.{List, [], ◌∷◌}
-use lib.ListN.{get_or, take}
+use lib.ListN.{length, get_or, take}
 use lib.Seq.{take-nil}
-use borrow.Author.Tests.{leb-true, le-leb, lt-leb, not-true}
-use Rattle.words.specs.Tests.{◌≤?◌}
+use borrow.Author.Tests.{leb-true, le-leb, lt-leb, not-true, ltb-true, ltb-false}
+use Rattle.words.specs.Tests.{◌≤?◌, ◌<?◌}
 use Rattle.words.specs.Lists.{every, count_where}
 use Rattle.words.proofs.Booleans.{not_both}
 use Rattle.words.proofs.Walks.{count_suc}
 use Rattle.words.proofs.Conditions.{every_anywhere}
 use Rattle.settings.specs.declared.Settings.{Settings}
 use Rattle.settings.specs.Settings.{n, t, refusal_of}
+use Rattle.quorums.specs.Parts.{with_mark, counted_in_turn}
 use Rattle.quorums.specs.Quorums.{◌∋◌, members, survives, closes, QuorumsMeet, QuorumsGrow}
 use Rattle.settings.proofs.Laws.{accepted_in_range}
 
--- the library counts as `count_where` does
-pub members_counted : (s : Settings) (set : List Bool) → count_by (λ mark. mark) (take (n s) set) ≡ members s set
-unfolding members count_where
-members_counted s set = sym (is_count_by (count_where (λ mark. mark)) (λ mark. mark) refl more (take (n s) set))
-  where
-    more : (mark : Bool) (marks : List Bool)
-        → count_where (λ mark. mark) (mark ∷ marks) ≡ cond mark (1 + count_where (λ mark. mark) marks) (count_where (λ mark. mark) marks)
-    more true marks = omega arith
-    more false marks = refl
+-- a chain counts as `count_where` does, where the sum fits: one mark more, whose observer is one of the first m or not
+module _ (m i k : ℕ) (xs : List Bool) (fits : k + suc (length xs) < 2 ^ 64)
+    (rest : (k : ℕ) → k + length xs < 2 ^ 64
+    → fold (with_mark m) k (enumerate_from (i + 1) xs) ≡ k + count_where (λ mark. mark) (take (m - (i + 1)) xs)) where
+  counted_one : (among : Bool) → (i <? m) ≡ among → (mark : Bool)
+      → fold (with_mark m) ((k + from_bool (among && mark)) % (2 ^ 64)) (enumerate_from (i + 1) xs)
+      ≡ k + count_where (λ mark. mark) (take (m - i) (mark ∷ xs))
+  unfolding count_where
+  counted_one true e true =
+      let sum : (k + 1) % (2 ^ 64) ≡ k + 1 = mod-eq_of_lt (omega arith) in
+      let left : m - i ≡ suc (m - (i + 1)) = omega (arith, ltb-true i m e) in
+      rw (sum, left) (rest (k + 1) (omega arith) ∙ omega arith)
+  counted_one true e false =
+      let sum : (k + 0) % (2 ^ 64) ≡ k = mod-eq_of_lt (omega arith) ∙ omega arith in
+      let left : m - i ≡ suc (m - (i + 1)) = omega (arith, ltb-true i m e) in
+      rw (sum, left) (rest k (omega arith))
+  counted_one false e mark =
+      let sum : (k + 0) % (2 ^ 64) ≡ k = mod-eq_of_lt (omega arith) ∙ omega arith in
+      let none : m - i ≡ 0 = omega (arith, ltb-false i m e) in
+      let no_more : m - (i + 1) ≡ 0 = omega (arith, ltb-false i m e) in
+      rw (sum, none) (rw no_more at (rest k (omega arith)))
+
+counted_from : (m i k : ℕ) (xs : List Bool) → k + length xs < 2 ^ 64
+    → fold (with_mark m) k (enumerate_from i xs) ≡ k + count_where (λ mark. mark) (take (m - i) xs)
+unfolding count_where
+counted_from m i k [] h = rw (take-nil {A = Bool} (m - i)) (omega arith)
+counted_from m i k (mark ∷ xs) h =
+    counted_one m i k xs h (λ k h. counted_from m (i + 1) k xs h) (i <? m) refl mark
+
+pub members_counted : (s : Settings) (set : List Bool) → length set ≡ 16 → counted_in_turn (n s) set ≡ members s set
+unfolding members
+members_counted s set h =
+    let whole : n s - 0 ≡ n s = omega arith in
+    (rw whole at (counted_from (n s) 0 0 set (rw h (omega arith)))) ∙ zero-add _
 
 -- how many of the first k are in the set
 abbrev marks : ℕ → List Bool → ℕ

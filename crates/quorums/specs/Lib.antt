@@ -1,2 +1,3 @@
 -- Rule 1.9: quorums.
 pub mod Quorums
+pub mod Parts

@@ -2,6 +2,8 @@
 // libraries'; here the input is read, to its end or to one byte past the limit, and the answers are written.
 #![tactic(auto)]
 
+ghost use Rattle.std.specs.Prelude.{◌≡◌, length};
+
 use stepfile::answer_file;
 use streams::{read_input, write_output};
 
@@ -16,12 +18,24 @@ fn run(rt: &HostRuntime, input: &[u8], out: &mut [u8]) {
     }
 }
 
+// Room for an input of the greatest length and one byte more, so that a longer one is seen to be too long.
+fn input_room() -> [u8; LONGEST_INPUT + 1]
+    ensures { 65537 ≡ length result }
+{
+    [0; LONGEST_INPUT + 1]
+}
+
+// 7 bytes for each byte of the longest input.
+fn answer_room() -> [u8; 7 * LONGEST_INPUT]
+    ensures { 458752 ≡ length result }
+{
+    [0; 7 * LONGEST_INPUT]
+}
+
 // Kept: rooms beside their counts: fixed memory, no heap.
 fn main(rt: HostRuntime) {
-    // one byte more, so that a longer input is seen to be too long
-    let mut room = [0; LONGEST_INPUT + 1];
-    // 7 bytes for each byte of the longest input
-    let mut out = [0; 7 * LONGEST_INPUT];
+    let mut room = input_room();
+    let mut out = answer_room();
     if let Ok(count) = read_input(&rt, b"rackrun", &mut room) {
         run(&rt, &room[..count], &mut out);
     }

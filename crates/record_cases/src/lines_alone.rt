@@ -72,7 +72,10 @@ pub fn write(rt: &impl Print, v: [u64; 7]) {
     if room <= MOST_ROOM {
         let written = lines::write_line(message_of(v), &mut space[..room]);
         show_length(rt, written);
-        show::text(rt, &space.map(|byte| shown(byte)));
+        for byte in &mut space {
+            *byte = shown(*byte);
+        }
+        show::text(rt, &space);
         show::text(rt, b"\n");
     }
 }

@@ -34,7 +34,7 @@ fn run(rt: &impl Print, input: &[u8]) {
 
 fn main(rt: HostRuntime) {
     // Kept: a room beside its count: fixed memory, no heap.
-    let mut room = [0; 65536];
+    let mut room: [u8; 65536] = [0; 65536];
     if let Ok(count) = read_input(&rt, b"record_cases", &mut room) {
         run(&rt, &room[..count]);
     }

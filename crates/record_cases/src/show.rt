@@ -22,7 +22,7 @@ pub fn line(rt: &impl Print, written: Result<usize, Refusal>, room: &[u8]) {
 // Kept: a room beside its count, here and below: fixed memory, no heap.
 pub fn answer(rt: &impl Print, answer: Result<Answer, Refusal>) {
     let mut room = [0; 64];
-    let written = answer_lines::write_answer(answer.map_err(u32::from), &mut room);
+    let written = answer_lines::write_step_answer(answer, &mut room);
     line(rt, written, &room);
 }
 

@@ -17,7 +17,7 @@ use recorder_form::has_form;
 use recorder_leases::{Advanced, advance, is_granted_above};
 use recorder_rules::{Recorder, RecorderEvent};
 use refusals::Refusal;
-use settings::Settings;
+use settings::{Settings, less};
 
 // What every step is handed besides its event: the settings, the record, and the reading.
 #[derive(Clone, Copy)]
@@ -85,7 +85,9 @@ impl Turn {
     }
 
     // No message is sent, and the record stays as it is: all that a drive does.
+    // Inlined, since a call of its own takes the turn by value: the C calls would take more stack than include/recorder.h says.
     #[tactic(auto, unfolding(messages::specs::Answers::said))]
+    #[inline(always)]
     fn stand(self) -> Stepped<Recorder>
         ensures { outcome result ≡ (standing self.s self.rec leaving self.rec) }
     {
@@ -99,8 +101,7 @@ impl Turn {
     fn is_due(self) -> bool
         ensures { result ≡ due self.s self.rec self.reading }
     {
-        (self.rec.counter == 0)
-            | (self.s.interval <= self.reading.saturating_sub(self.rec.last_send))
+        (self.rec.counter == 0) | (self.s.interval <= less(self.reading, self.rec.last_send))
     }
 
     // Tick: rule 3.8. There is a place for the new lease, since no more than 63 can be open when it is due.

@@ -8,7 +8,7 @@ ghost use Rattle.recorder_rules.specs.Recorder.{is_zero, has_form};
 
 use messages::{TOP_COUNTER, TOP_READING};
 use recorder_rules::Recorder;
-use settings::{MOST_LEASES, Settings};
+use settings::{MOST_LEASES, Settings, less};
 
 // Are the places from `first` on unused?
 fn are_unused(places: &[u64], first: usize) -> bool
@@ -31,16 +31,14 @@ fn are_apart(leases: &[u64], interval: u64) -> bool
     leases
         .iter()
         .zip(later)
-        .all(|(send, next)| interval <= next.saturating_sub(*send))
+        .all(|(send, next)| interval <= less(*next, *send))
 }
 
 // Are the leases younger than `lease` at a reading?
 fn are_young(leases: &[u64], lease: u64, reading: u64) -> bool
     ensures { result ≡ every (λ send. reading - send <? lease) leases.now }
 {
-    leases
-        .iter()
-        .all(|send| reading.saturating_sub(*send) < lease)
+    leases.iter().all(|send| less(reading, *send) < lease)
 }
 
 // The conditions in their order. Where the counter is 0 the places' own conditions leave only the numbers to be seen.
@@ -64,7 +62,7 @@ pub fn has_form(s: Settings, rec: Recorder) -> bool
         & (rec.open_leases <= rec.counter)
         & are_apart(leases, s.interval)
         & ((rec.counter == 0) | (rec.sends[newest] == rec.last_send))
-        & (rec.counter.saturating_sub(1) <= rec.last_send)
+        & (less(rec.counter, 1) <= rec.last_send)
         & (rec.last_send <= rec.last_reading)
         & (rec.last_reading <= TOP_READING)
         & ((rec.stopped != 0) | are_young(leases, s.recorder_lease, rec.last_reading))

@@ -11,7 +11,7 @@ ghost use Rattle.recorder_leases.specs.Parts.{sifted};
 
 use quorums::contains_survival_quorum;
 use recorder_rules::Recorder;
-use settings::{MOST_LEASES, MOST_OBSERVERS, Settings};
+use settings::{MOST_LEASES, MOST_OBSERVERS, Settings, less};
 
 // The open leases that have not ended, in their places.
 // Kept: a count beside the places, as in the record that they go into: the C interface.
@@ -30,7 +30,8 @@ pub enum Advanced {
 
 // The observers that have granted more than `number`.
 // Kept: a loop over places: `grants.map` proves, but misses the bar of speed (docs/FIGURES.md, 1.17 to 1.32 times the twin's time where
-// 64 leases end at one step): with it `bench/firmware` gives 3.6, with this 1.1.
+// 64 leases end at one step): with it `bench/firmware` gave 3.6, with the loop 1.1, and 0.54 since
+// `quorums` counts all marks at once.
 fn granted_above(grants: [u64; MOST_OBSERVERS], number: u64) -> [bool; MOST_OBSERVERS]
     ensures { result ≡ map (λ grant. number <? grant) grants }
 {
@@ -59,8 +60,8 @@ fn sift(s: Settings, rec: Recorder, reading: u64) -> Option<Left>
     let mut count: usize = 0;
     let mut sends = [0u64; MOST_LEASES];
     for (i, send) in rec.sends[..open].iter().enumerate() {
-        if s.recorder_lease <= reading.saturating_sub(*send) {
-            let number = rec.counter.saturating_sub(rec.open_leases) + (i as u64) + 1;
+        if s.recorder_lease <= less(reading, *send) {
+            let number = less(rec.counter, rec.open_leases) + (i as u64) + 1;
             if !is_granted_above(s, rec, number) {
                 return None;
             }

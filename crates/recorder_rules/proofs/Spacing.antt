@@ -40,6 +40,17 @@ module _ (apart : ℕ) where
       let far = rw last at (h (omega arith)) in
       holds_both parts.0 (spaced_more (y ∷ ys) z parts.1 (λ some. rw last_of_rest far))
 
+  -- each is as far below the next
+  pub spaced_at : 1 ≤ apart → (xs : List ℕ) → spaced apart xs ≡ true → (i : ℕ) → suc i < length xs
+      → get_or xs i 0 + apart ≤ get_or xs (suc i) 0
+  unfolding spaced
+  spaced_at h [] e i within = absurd (not-suc-le-zero within)
+  spaced_at h (x ∷ []) e i within = absurd (not-suc-le-zero (le_of_suc-le-suc within))
+  spaced_at h (x ∷ (y ∷ ys)) e zero within =
+      let step = leb-true apart (y - x) (both_hold (apart ≤? y - x) (spaced apart (y ∷ ys)) e).0 in omega arith
+  spaced_at h (x ∷ (y ∷ ys)) e (suc i) within =
+      spaced_at h (y ∷ ys) (both_hold (apart ≤? y - x) (spaced apart (y ∷ ys)) e).1 i (le_of_suc-le-suc within)
+
   -- the first is as far below the last as their number makes it
   pub first_to_last : 1 ≤ apart → (x : ℕ) (xs : List ℕ) → spaced apart (x ∷ xs) ≡ true
       → x + length xs * apart ≤ get_or (x ∷ xs) (length xs) 0

@@ -51,3 +51,6 @@ module _ (x y : ℕ) (small_x : x < 2 ^ 62) (small_y : y < 2 ^ 62) where
       small : (x y : ℕ) → x < 2 ^ 62 → y < 2 ^ 62 → mag (pos x -ℤ pos y) < 2 ^ 63
       small x zero p q = omega arith
       small x (suc y) p q = of (ltb x (suc y)) (suc y - suc x) (x - suc y) (omega arith) (omega arith)
+
+  pub difference_exact : to_z w64 (of_z w64 (to_z w64 x -ℤ to_z w64 y)) ≡ pos x -ℤ pos y
+  difference_exact = to_z-of_z difference_fits ∙ bits

@@ -138,7 +138,6 @@ fn difference(x: u64, y: u64) -> i64
 }
 
 // x - y, or 0 where y is the greater: no record, whatever its numbers, makes a difference wrap.
-// Kept: a function of one line, which its edit less_never_zero and SettingsSettled of `settled` name.
 pub fn less(x: u64, y: u64) -> u64
     ensures { result ≡ x - y }
 {
@@ -149,7 +148,7 @@ pub fn less(x: u64, y: u64) -> u64
 fn rounding_of(s: Settings) -> u64
     ensures { result ≡ rounding s }
 {
-    s.grain.saturating_sub(1)
+    less(s.grain, 1)
 }
 
 fn slacks_within(s: Settings) -> Slacks
@@ -202,11 +201,8 @@ pub fn round_window(s: Settings) -> u64
     ensures { result ≡ window s }
 {
     let rounding = rounding_of(s);
-    let once = s
-        .observer_lease
-        .saturating_sub(s.recorder_lease)
-        .saturating_sub(rounding);
-    once.saturating_sub(rounding).saturating_sub(rounding)
+    let once = less(less(s.observer_lease, s.recorder_lease), rounding);
+    less(less(once, rounding), rounding)
 }
 
 // The settings' answer: W and the slacks of accepted settings, or the refusal.

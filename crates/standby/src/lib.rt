@@ -15,7 +15,7 @@ ghost use Rattle.standby.specs.Parts.{Ready, greatest_by_chain};
 use messages::{Answer, Message, Status, Stepped, TOP_COUNTER, TOP_READING, Word, bad_reading};
 use refusals::Refusal;
 use settings::{MOST_OBSERVERS, Settings};
-use standby_form::{has_form, kept_marks};
+use standby_form::{has_form, is_dead, kept_marks};
 use standby_rules::{Place, Standby, StandbyEvent, closed_round};
 
 // m, the greatest counter of a kept ack, or 0.
@@ -35,7 +35,7 @@ fn greatest_kept(places: [Place; MOST_OBSERVERS]) -> u64
 fn some_dead(places: [Place; MOST_OBSERVERS], m: u64) -> bool
     ensures { result ≡ some (says_dead m) places }
 {
-    places.iter().any(|place| place.kept & (place.status == Status::Dead) & (place.counter == m))
+    places.iter().any(|place| place.kept & is_dead(place.status) & (place.counter == m))
 }
 
 // The verdict at a quorum: the greatest counter decides, never a count of statuses.
@@ -142,7 +142,7 @@ impl Turn {
     fn is_late(self) -> bool
         ensures { result ≡ is_late (window self.s) self.q self.reading }
     {
-        settings::round_window(self.s) < self.reading.saturating_sub(self.q.ts)
+        settings::round_window(self.s) < settings::less(self.reading, self.q.ts)
     }
 
     #[tactic(auto, unfolding(messages::specs::Answers::words_of))]

@@ -9,7 +9,7 @@ use messages::{Status, TOP_COUNTER, TOP_READING};
 use settings::{MOST_OBSERVERS, Settings};
 use standby_rules::{Place, Standby, UNUSED};
 
-// Kept: the derived equality under a name, since the edit `dead_is_alive` and a row of docs/PROMISES.md hold this function.
+// Kept: the derived equality under a name: the verdict asks it, and docs/PROMISES.md names it as a part of the step.
 #[tactic(auto, unfolding(standby_rules::specs::Standby::is_dead))]
 pub fn is_dead(status: Status) -> bool
     ensures { result ≡ is_dead status }

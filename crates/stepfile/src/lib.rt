@@ -6,16 +6,12 @@ ghost use Rattle.std.specs.Prelude.{◌≡◌, ◌+◌, ◌*◌, ◌≤◌, ◌<
 ghost use Rattle.words.specs.Tests.{◌=?◌};
 ghost use Rattle.fields.specs.Places.{put_at};
 ghost use Rattle.refusals.specs.Refusals.{said_in};
-ghost use Rattle.messages.specs.Answers.{said};
-ghost use Rattle.lines_rules.specs.Writing.{fitting, filled};
-ghost use Rattle.answer_lines.specs.Answers.{answer_line};
 ghost use Rattle.session.specs.Session.{started};
 ghost use Rattle.stepfile_rules.specs.Lines.{lines_of};
 ghost use Rattle.stepfile_rules.specs.Parts.{line_length, length_said};
 ghost use Rattle.stepfile_rules.specs.Files.{answers_to, answers_of, answered_said, answered_room};
 
-use answer_lines::{write_answer, write_settings_answer};
-use messages::Answer;
+use answer_lines::{write_settings_answer, write_step_answer};
 use refusals::Refusal;
 use session::{observer_at, start, with_observer};
 use settings::{Settings, accept};
@@ -57,14 +53,6 @@ fn length_of(written: Result<usize, Refusal>) -> usize
     written.unwrap_or(0)
 }
 
-// Writes the line of a step's answer, in which a refusal is its number.
-#[tactic(auto, unfolding(messages::specs::Answers::said, messages::specs::Answers::said_with))]
-fn write_done(answer: Result<Answer, Refusal>, out: &mut [u8]) -> Result<usize, Refusal>
-    ensures { (said_in result ≡ fitting (answer_line (said answer)) out.old) × (out.new ≡ filled (answer_line (said answer)) out.old) }
-{
-    write_answer(answer.map_err(u32::from), out)
-}
-
 // Answers the step lines, writing from `begin` on, and gives the place behind the answers. The session's records are
 // variables here, so that a line moves the record of its own party alone.
 // Kept: `out` and `begin` apart: no plainer, because a struct of the two would serve this one function alone.
@@ -101,7 +89,7 @@ fn answer_steps(lines: &[u8], s: Settings, out: &mut [u8], begin: usize) -> usiz
             }
             None => Err(Refusal::BadLine),
         };
-        at += length_of(write_done(answer, &mut out[at..]));
+        at += length_of(write_step_answer(answer, &mut out[at..]));
         rest = behind;
     }
     at
@@ -114,7 +102,7 @@ fn answer_lines_of(input: &[u8], out: &mut [u8]) -> usize
 {
     let (first, rest) = split_line(input);
     let Some(s) = read_settings_line(first) else {
-        return length_of(write_done(Err(Refusal::BadLine), out));
+        return length_of(write_step_answer(Err(Refusal::BadLine), out));
     };
     let at = length_of(write_settings_answer(s, out));
     let accepted = accept(s).is_ok();
@@ -131,7 +119,7 @@ pub fn answer_file(input: &[u8], out: &mut [u8]) -> Result<usize, Refusal>
     ensures { (said_in result ≡ answered_said input.now out.old) × (out.new ≡ answered_room input.now out.old) }
 {
     if MOST_BYTES < input.len() {
-        return write_done(Err(Refusal::WrongRoom), out);
+        return write_step_answer(Err(Refusal::WrongRoom), out);
     }
     if out.len() < 7 * input.len() {
         return Err(Refusal::WrongRoom);

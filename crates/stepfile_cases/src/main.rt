@@ -36,7 +36,7 @@ fn answer_each(rt: &impl Print, input: &[u8], out: &mut [u8]) {
 
 // What no input file can be: one of the greatest length, one byte more, and one without room for its answers.
 fn answer_ends(rt: &impl Print, out: &mut [u8]) {
-    let long = [b'\n'; LONGEST_INPUT + 1];
+    let long: [u8; 65537] = [b'\n'; LONGEST_INPUT + 1];
     answer(rt, &long[..LONGEST_INPUT], out);
     answer(rt, &long, out);
     // Kept: fixed memory, no heap.
@@ -51,9 +51,9 @@ fn run(rt: &impl Print, input: &[u8], out: &mut [u8]) {
 
 fn main(rt: HostRuntime) {
     // Kept: rooms beside their counts: fixed memory, no heap.
-    let mut room = [0; LONGEST_INPUT];
+    let mut room: [u8; 65536] = [0; LONGEST_INPUT];
     // 7 bytes for each byte of the longest input
-    let mut out = [0; 7 * LONGEST_INPUT];
+    let mut out: [u8; 458752] = [0; 7 * LONGEST_INPUT];
     if let Ok(count) = read_input(&rt, b"stepfile_cases", &mut room) {
         run(&rt, &room[..count], &mut out);
     }

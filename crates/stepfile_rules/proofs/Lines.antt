@@ -1,15 +1,28 @@
 -- Lines: where one ends, and that all of them together are the file.
 use Rattle.std.specs.Prelude.{if◌then◌else◌}
-use Prim.Native.Nat.{ℕ, suc, ◌≤◌, ◌<◌}
+use Prim.Native.Nat.{ℕ, suc, ◌+◌, ◌≤◌, ◌<◌}
 use native.Mathlib.Nat.{not-suc-le-zero}
+use native.Mathlib.Numerals.{add-one}
 use native.Mathlib.Omega.{arith}
 use mathlib.Core.Path.{◌≡◌, refl, ap, ◌∙◌}
 use mathlib.Core.Bool.{Bool, true, false}
 use mathlib.Core.List.{List, [], ◌∷◌}
-use lib.ListN.{length, take, drop}
+use lib.ListN.{length, take, drop, get_or}
+use lib.Seq.{drop-cons}
 use Rattle.words.specs.Tests.{◌=?◌}
 use Rattle.stepfile_rules.specs.Lines.{onto, lines_of, together}
 use Rattle.stepfile_rules.specs.Parts.{line_length}
+
+-- a line feed ends the line
+pub line_end : (s : List ℕ) (i : ℕ) → i < length s → (get_or s i 0 =? 10) ≡ true → line_length (drop i s) ≡ 1
+unfolding line_length
+line_end s i h e = rw (drop-cons s i 0 h, e)
+
+-- any other byte goes on with it
+pub line_next : (s : List ℕ) (i : ℕ) → i < length s → (get_or s i 0 =? 10) ≡ false
+    → line_length (drop i s) ≡ suc (line_length (drop (i + 1) s))
+unfolding line_length
+line_next s i h e = rw (drop-cons s i 0 h, e, add-one i)
 
 pub line_some : (s : List ℕ) → 0 < length s → 0 < line_length s
 unfolding line_length

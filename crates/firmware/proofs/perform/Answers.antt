@@ -1,24 +1,20 @@
 -- A buffer of another size is refused; any other is the step's: a refusal leaves the bytes, any other answer the record's.
 use Rattle.std.proofs.Common.{rules}
 use Prim.Native.Nat.{ℕ}
-use mathlib.Core.Path.{◌≡◌, refl, ap, ◌∙◌}
+use mathlib.Core.Path.{◌≡◌, refl, ◌∙◌}
 use mathlib.Core.List.{List}
-use mathlib.Core.Bool.{false}
 use lib.ListN.{length}
 use borrow.Author.Tests.{ne_eqb}
-use Rattle.std.proofs.Common.{Result, Ok, Err}
+use Rattle.std.proofs.Common.{Result, Err}
 use Rattle.refusals.specs.declared.Refusal.{Refusal}
 use Rattle.refusals.specs.Refusals.{number_of}
 use Rattle.refusals.proofs.Apart.{some_number}
 use Rattle.settings.specs.declared.Settings.{Settings}
 use Rattle.settings.specs.Settings.{refusal_of}
 use Rattle.messages.specs.declared.Answer.{Answer}
-use Rattle.messages.specs.declared.Answer.TheVariants.{Send, Say}
-use Rattle.messages.specs.Answers.{said, given, is_refusal}
-use Rattle.messages.specs.Outcomes.{Outcome, outcome}
-use Rattle.recorder_rules.specs.declared.Recorder.{Recorder}
+use Rattle.messages.specs.Answers.{said}
 use Rattle.recorder_rules.specs.declared.RecorderEvent.{RecorderEvent}
-use Rattle.firmware_rules.specs.Bytes.{record_bytes, encoded}
+use Rattle.firmware_rules.specs.Bytes.{record_bytes}
 use Rattle.firmware_rules.specs.Calls.{code_of, left_by, called, Called}
 use Rattle.firmware_rules.proofs.Calls.{full_size, other_size}
 use Rattle.record_bytes.proofs.Held.{held, held_after}
@@ -40,19 +36,6 @@ module _ (s : Settings) (bytes : List ℕ) (reading : ℕ) (event : RecorderEven
   unfolding code_of said
   size_refused size e = rw (other_size s bytes reading event size, ← e) (refl, refl)
 
-no_refusal : (a : Answer) → is_refusal (given a) ≡ false
-unfolding is_refusal given
-no_refusal (Send m) = refl
-no_refusal (Say w) = refl
-
-refused : (bytes : List ℕ) (o : Outcome Recorder) (r : Refusal) → o.answer ≡ said (Err r) → Leaves (Err r) bytes (left_by bytes o)
-unfolding left_by is_refusal said
-refused bytes o r e = rw e (refl, refl)
-
-performed : (bytes : List ℕ) (o : Outcome Recorder) (a : Answer) → o.answer ≡ said (Ok a) → Leaves (Ok a) (encoded o.rec) (left_by bytes o)
-unfolding left_by said
-performed bytes o a e = rw (e, no_refusal a) (refl, refl)
-
 pub returns-in_err-accept : goal.returns-in_err-accept
 returns-in_err-accept c =
     search (rules, settings_refused c.args.s c.args.buffer.now c.args.reading c.args.event c.if-buffer-ne-RECORD_BYTES.true _ c.in_err-accept.ensures)
@@ -61,23 +44,28 @@ pub returns-then-buffer-ne-RECORD_BYTES : goal.returns-then-buffer-ne-RECORD_BYT
 returns-then-buffer-ne-RECORD_BYTES c =
     size_refused c.args.s c.args.buffer.now c.args.reading c.args.event c.if-buffer-ne-RECORD_BYTES.true c.in_ok-accept.ensures
 
-pub returns-in_err-answer : goal.returns-in_err-answer
-returns-in_err-answer c =
+pub returns-then-is_refused : goal.returns-then-is_refused
+unfolding left_by
+returns-then-is_refused c =
     let full = c.if-buffer-ne-RECORD_BYTES.false in
     rw (
       full_size c.args.s c.args.buffer.now c.args.reading c.args.event full,
       ← (c.record_in-rec.ensures ∙ held c.args.buffer.now full),
       ← c.step-done.ensures,
+      ← c.is_refused.ensures,
+      c.if-is_refused.true,
     )
-    (search (rules, refused c.args.buffer.now (outcome c.step-done.result) _ (ap said c.in_err-answer.was)))
+    (refl, refl)
 
 pub returns : goal.returns
+unfolding left_by
 returns c =
     let full = c.if-buffer-ne-RECORD_BYTES.false in
     rw (
       full_size c.args.s c.args.buffer.now c.args.reading c.args.event full,
       ← (c.record_in-rec.ensures ∙ held c.args.buffer.now full),
       ← c.step-done.ensures,
-      c.put_record.ensures ∙ held_after _ full _,
+      ← c.is_refused.ensures,
+      c.if-is_refused.false,
     )
-    (performed c.args.buffer.now (outcome c.step-done.result) _ (ap said c.in_ok-answer.was))
+    (refl, c.put_record.ensures ∙ held_after _ full _)

@@ -18,7 +18,7 @@ returns c =
       c.are_at_most.ensures,
       c.are_apart.ensures,
       in_pairs (η c.args.s) (leases c.args.rec),
-      c.saturating_sub.ensures,
+      c.less.ensures,
       c.are_young.ensures,
     )
     (sym (as_coded c.args.s c.args.rec c.if-rec.false))

@@ -15,7 +15,7 @@ use Rattle.recorder_leases.specs.Parts.{sifted}
 use Rattle.recorder_leases.proofs.Leases.{lacking_kept, lacking_renewed, lacking_found, lacking_done, kept_ended, kept_young, placed_push}
 use Rattle.recorder_rules.proofs.Places.{sized}
 use Rattle.recorder_leases.proofs.sift.Goals as goal
-use Rattle.recorder_leases.proofs.sift.Goals.{then-s-saturating_sub+else-not-is_granted_above, else-s-saturating_sub}
+use Rattle.recorder_leases.proofs.sift.Goals.{then-s-less+else-not-is_granted_above, else-s-less}
 
 pub loop-i-init : goal.loop-i-init
 unfolding lacking kept
@@ -43,8 +43,8 @@ returns-then-not-is_granted_above c =
     let so_far = c.loop-i.invariant in
     let in_list = rw so_far.items at c.loop-i-test.true in
     let here = ap (λ (ys : List ℕ). get_or ys i 0) so_far.items in
-    let ended = le-leb (P a.s) (a.reading - get_or xs i 0) (omega (arith, here, c.if-s-saturating_sub.true)) in
-    let number : c.saturating_sub-then-s-saturating_sub.result + i + 1 ≡ oldest a.rec + i = omega arith in
+    let ended = le-leb (P a.s) (a.reading - get_or xs i 0) (omega (arith, here, c.if-s-less.true)) in
+    let number : c.less-then-s-less.result + i + 1 ≡ oldest a.rec + i = omega arith in
     let lacks = rw number at (sym c.is_granted_above.ensures ∙ c.if-not-is_granted_above.true) in
     rw (lacking_found a.s a.rec a.reading (oldest a.rec) xs i so_far.lacks in_list ended lacks)
 
@@ -57,10 +57,10 @@ loop-i-preserved c =
     let in_list = rw so_far.items at c.loop-i-test.true in
     let here = ap (λ (ys : List ℕ). get_or ys i 0) so_far.items in
     let ks = kept a.s a.reading (take i xs) in
-    elim c.if-s-saturating_sub.branch [
-      | then-s-saturating_sub+else-not-is_granted_above w ↦
-          let ended = le-leb (P a.s) (a.reading - get_or xs i 0) (omega (arith, here, w.if-s-saturating_sub.true)) in
-          let number : w.saturating_sub-then-s-saturating_sub.result + i + 1 ≡ oldest a.rec + i = omega arith in
+    elim c.if-s-less.branch [
+      | then-s-less+else-not-is_granted_above w ↦
+          let ended = le-leb (P a.s) (a.reading - get_or xs i 0) (omega (arith, here, w.if-s-less.true)) in
+          let number : w.less-then-s-less.result + i + 1 ≡ oldest a.rec + i = omega arith in
           let renewed = rw number at (sym w.is_granted_above.ensures ∙ w.if-not-is_granted_above.false) in
           let same = kept_ended a.s a.reading xs i in_list ended in
           record {
@@ -72,8 +72,8 @@ loop-i-preserved c =
             count = rw same (w.count-is ∙ so_far.count);
             sends = rw same (w.sends-is ∙ so_far.sends);
           }
-      | else-s-saturating_sub w ↦
-          let young = lt-leb (P a.s) (a.reading - get_or xs i 0) (omega (arith, here, w.if-s-saturating_sub.false)) in
+      | else-s-less w ↦
+          let young = lt-leb (P a.s) (a.reading - get_or xs i 0) (omega (arith, here, w.if-s-less.false)) in
           let more = kept_young a.s a.reading xs i in_list young in
           let place : length ks < 64 = omega (arith, so_far.count) in
           record {

@@ -11,9 +11,9 @@ pub returns : goal.returns
 unfolding window
 returns c =
     rw (
-      c.saturating_sub-3.ensures,
-      c.saturating_sub-2.ensures,
-      c.saturating_sub-once.ensures,
-      c.saturating_sub.ensures,
+      c.less-3.ensures,
+      c.less-2.ensures,
+      c.less-once.ensures,
+      c.less.ensures,
       c.rounding_of-rounding.ensures,
     ) (thrice _ _)

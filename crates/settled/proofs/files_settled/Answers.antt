@@ -8,6 +8,7 @@ returns c = record {
   read_settings_line = λ _ _ _ _ _ _ p q. (p ∙ sym q, refl);
   read_step_line = λ _ _ _ _ _ _ p q. (p ∙ sym q, refl);
   write_answer = λ _ _ _ _ _ _ p q. (said_in_apart (p.0 ∙ sym q.0), ap (λ out. (tt, (out, tt))) (p.1 ∙ sym q.1));
+  write_step_answer = λ _ _ _ _ _ _ p q. (said_in_apart (p.0 ∙ sym q.0), ap (λ out. (tt, (out, tt))) (p.1 ∙ sym q.1));
   write_settings_answer =
       λ _ _ _ _ _ _ p q. (said_in_apart (p.0 ∙ sym q.0), ap (λ out. (tt, (out, tt))) (p.1 ∙ sym q.1));
   start = λ _ _ _ _ _ _ p q. (p ∙ sym q, refl);

@@ -12,7 +12,7 @@ pub returns-then-input-gt-MOST_BYTES : goal.returns-then-input-gt-MOST_BYTES
 unfolding said
 returns-then-input-gt-MOST_BYTES c =
     let t = too_long_said c.args.input.now c.args.out.now c.if-input-gt-MOST_BYTES.true in
-    (c.write_done.ensures.0 ∙ t.0, c.write_done.ensures.1 ∙ t.1)
+    (c.write_step_answer.ensures.0 ∙ t.0, c.write_step_answer.ensures.1 ∙ t.1)
 
 pub returns-then-out-input : goal.returns-then-out-input
 returns-then-out-input c =

@@ -55,8 +55,8 @@ returns-in_default c =
     let w = written (answer_line (refuses 9)) c.args.out.now (rw (refusal_line 9) (omega (arith, c.requires.2, c.requires.0))) in
     let none = sym (c.read_settings_line.ensures ∙ ap settings_line c.split_line.ensures.0) ∙ c.in_default.is in
     rw (opened input c.requires.0 (line_length input) refl, none) (
-      c.length_of.ensures ∙ ap length_said c.write_done.ensures.0 ∙ w.0,
-      c.write_done.ensures.1 ∙ w.1,
+      c.length_of.ensures ∙ ap length_said c.write_step_answer.ensures.0 ∙ w.0,
+      c.write_step_answer.ensures.1 ∙ w.1,
     )
 
 pub answer_steps-requires : goal.answer_steps-requires

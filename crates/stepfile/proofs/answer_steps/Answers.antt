@@ -75,13 +75,13 @@ in-part c = rw (part_from_lem (place c) (room c), length-drop (place c) (room c)
 
 written-length : (c : goal.After-length_of-at) → c.length_of-at.result ≡ length (answer c)
 unfolding length_said
-written-length c = c.length_of-at.ensures ∙ ap length_said (c.write_done.ensures.0 ∙ fits_said _ _ (in-part c))
+written-length c = c.length_of-at.ensures ∙ ap length_said (c.write_step_answer.ensures.0 ∙ fits_said _ _ (in-part c))
 
 written_out : (c : goal.After-length_of-at)
-    → put_mid (place c) (length (room c) - place c) (room c) c.write_done.new.out ≡ put_at (room c) (place c) (answer c)
+    → put_mid (place c) (length (room c) - place c) (room c) c.write_step_answer.new.out ≡ put_at (room c) (place c) (answer c)
 written_out c =
     ap (λ (part : List ℕ). put_mid (place c) (length (room c) - place c) (room c) part)
-    (c.write_done.ensures.1 ∙ fits_room _ _ (in-part c)) ∙ put_part (room c) (place c) (answer c) (fits c)
+    (c.write_step_answer.ensures.1 ∙ fits_room _ _ (in-part c)) ∙ put_part (room c) (place c) (answer c) (fits c)
 
 pub loop-rest-init : goal.loop-rest-init
 loop-rest-init c = rw c.start-begun.ensures (gone_none c.requires.1)
